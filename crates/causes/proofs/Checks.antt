@@ -1,0 +1,55 @@
+-- Laws of checks in an order: callers follow their tests one by one, and never open `firstOf` or `unless`. Assumes nothing.
+use mathlib.Core.Path.{_≡_, refl}
+use mathlib.Core.Bool.{Bool, true, false}
+use mathlib.Core.List.{List, [], _∷_}
+use Rattle.causes.specs.declared.Cause.{Cause}
+use Rattle.causes.specs.declared.Checked.{Checked}
+use Rattle.causes.specs.declared.Checked.the-variants.{Clear, Because}
+use Rattle.causes.specs.Checks.{Check, check, firstOf, unless}
+
+-- a check that holds ends the call with its cause
+pub fires : {A : Type 0} (b : Bool) (c : Cause) (cs : List Check) (f : Cause → A) (a : A) → b ≡ true → unless (firstOf (check b c ∷ cs)) f a ≡ f c
+unfolding firstOf unless
+fires b c cs f a e = rw e
+
+-- a check that does not hold is passed
+pub passes : {A : Type 0} (b : Bool) (c : Cause) (cs : List Check) (f : Cause → A) (a : A) → b ≡ false → unless (firstOf (check b c ∷ cs)) f a ≡ unless (firstOf cs) f a
+unfolding firstOf unless
+passes b c cs f a e = rw e
+
+-- after the last check comes the accepted answer
+pub ends : {A : Type 0} (f : Cause → A) (a : A) → unless (firstOf []) f a ≡ a
+unfolding firstOf unless
+ends f a = refl
+
+-- checks that some callee has run already, by what they found
+pub refuses : {A : Type 0} (t : Checked) (f : Cause → A) (a : A) (c : Cause) → t ≡ Because c → unless t f a ≡ f c
+unfolding unless
+refuses t f a c e = rw e
+
+pub accepts : {A : Type 0} (t : Checked) (f : Cause → A) (a : A) → t ≡ Clear → unless t f a ≡ a
+unfolding unless
+accepts t f a e = rw e
+
+-- where the checks find nothing, none of them holds
+pub clear-head : (b : Bool) (c : Cause) (cs : List Check) → firstOf (check b c ∷ cs) ≡ Clear → b ≡ false
+unfolding firstOf
+clear-head true c cs e = cc
+clear-head false c cs e = refl
+
+pub clear-tail : (b : Bool) (c : Cause) (cs : List Check) → firstOf (check b c ∷ cs) ≡ Clear → firstOf cs ≡ Clear
+unfolding firstOf
+clear-tail true c cs e = cc
+clear-tail false c cs e = e
+
+-- what holds of every refusal, and of the answer where the checks find nothing, holds of the outcome
+pub either : {A : Type 0} (t : Checked) (Q : A → Type 0) (f : Cause → A) (a : A) → ((c : Cause) → Q (f c)) → (t ≡ Clear → Q a) → Q (unless t f a)
+unfolding unless
+either Clear Q f a h k = k refl
+either (Because c) Q f a h k = h c
+
+-- a function of the outcome is the outcome of the function's values
+pub unless-map : {A B : Type 0} (g : A → B) (t : Checked) (f : Cause → A) (a : A) → g (unless t f a) ≡ unless t (λ c. g (f c)) (g a)
+unfolding unless
+unless-map g Clear f a = refl
+unless-map g (Because c) f a = refl

@@ -1,0 +1,22 @@
+-- Document 01, "Causes": the table's number of each cause. Assumes nothing.
+use Prim.Native.Nat.{ℕ}
+use Rattle.causes.specs.declared.Cause.{Cause}
+use Rattle.causes.specs.declared.Cause.the-variants.{ShortTable, OverBright, OffScaleCondition, DarkWhite, LopsidedWhite, NoConditions, NoStandard, NoTolerance, ToleranceOffScale, SessionFull, NotABook, NoSuchShade, TooManyShades, OutOfOrder, ShortBuffer, NoSuchLight}
+
+abbrev pub causeNumber : Cause → ℕ
+causeNumber ShortTable = 1
+causeNumber OverBright = 2
+causeNumber OffScaleCondition = 3
+causeNumber DarkWhite = 4
+causeNumber LopsidedWhite = 5
+causeNumber NoConditions = 6
+causeNumber NoStandard = 7
+causeNumber NoTolerance = 8
+causeNumber ToleranceOffScale = 9
+causeNumber SessionFull = 10
+causeNumber NotABook = 11
+causeNumber NoSuchShade = 12
+causeNumber TooManyShades = 13
+causeNumber OutOfOrder = 14
+causeNumber ShortBuffer = 15
+causeNumber NoSuchLight = 16

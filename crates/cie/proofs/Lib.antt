@@ -1,0 +1,13 @@
+pub mod Scales
+pub mod RowSums
+pub mod Lengths
+pub mod Steps
+pub mod Whites
+pub mod Sizes
+pub mod Rule
+pub mod Distances
+pub mod Cielab
+pub mod Cieluv
+pub mod Verdicts
+pub mod Marked
+pub mod TableChecks

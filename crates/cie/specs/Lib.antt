@@ -1,0 +1,7 @@
+pub mod Scales
+pub mod Tables
+pub mod Sums
+pub mod Colour
+pub mod Sizes
+pub mod Exact
+pub mod Verdict

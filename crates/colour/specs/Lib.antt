@@ -1,0 +1,4 @@
+pub mod Weights
+pub mod Conditions
+pub mod Measure
+pub mod Colours

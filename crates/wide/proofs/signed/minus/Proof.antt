@@ -1,0 +1,36 @@
+-- `wide::signed::minus` meets its contract: the smaller is taken from the greater, and the sign set after.
+-- Assumes nothing.
+use borrow.Author.Needs.{needs}
+use native.Mathlib.Omega.{arith}
+use mathlib.Core.Path.{_≡_, ap, _∙_}
+use Prim.Native.Nat.{ℕ, _-_, _^_, _<_}
+use lib.IntN.{ℤ, pos, _-ℤ_}
+use mir.Facts.{toZ-ofZ, toZ-pos}
+use mir.Syntax.{w32}
+use mir.Val.{SFits, toZ}
+use Rattle.wide.proofs.Parts.{diff-same, diff-pos}
+use Rattle.wide.proofs.Signs.{abs-fits, abs-neg}
+use Rattle.wide.proofs.signed.minus.Statement.{statement}
+use Rattle.wide.proofs.signed.minus.Tie as tie
+
+negated : (n : ℕ) → n < 2 ^ 31 → pos 0 -ℤ toZ w32 n ≡ pos 0 -ℤ pos n
+negated n h = ap (λ (z : ℤ). pos 0 -ℤ z) (toZ-pos w32 h)
+
+negated-fits : (n : ℕ) → n < 2 ^ 31 → SFits w32 (pos 0 -ℤ toZ w32 n)
+negated-fits n h = rw (negated n h) (abs-fits w32 (pos 0 -ℤ pos n) (omega (arith, abs-neg (pos n))))
+
+sub-result-2 : tie.Need-sub-result-2
+sub-result-2 c = let p = c .before .args in negated-fits (p .b - p .a) (search needs)
+
+returns : tie.Need-returns
+returns c =
+    let p = c .before .args in
+    toZ-ofZ (negated-fits (p .b - p .a) (search needs)) ∙ negated (p .b - p .a) (search needs)
+    ∙ diff-same 0 (p .b - p .a) (p .a) (p .b) (omega arith) (omega arith)
+
+returns-2 : tie.Need-returns-2
+returns-2 c = let p = c .before .args in toZ-pos w32 (search needs) ∙ diff-pos (p .a) (p .b) (search needs)
+
+pub minus-spec : {M : Type 1} → statement M
+minus-spec =
+    tie.close (tie.spec (λ c. search needs) (λ c. search needs) sub-result-2 returns (λ c. search needs) returns-2)

@@ -1,0 +1,30 @@
+-- Roots rounded down: "down" is the largest whole number not above. Assumes nothing.
+use mathlib.Core.Bool.{Bool, true, false, not}
+use Prim.Native.Nat.{ℕ, zero, suc, _+_, _*_, _/_}
+use lib.Dec.{T, leb}
+
+-- r passes the test t, and the next number does not
+pub record Last (t : ℕ → Bool) (r : ℕ) : Type 0 where
+  pub passes : T (t r)
+  pub stops : T (not (t (suc r)))
+
+-- the greatest number that passes t, given q, the greatest whose double passes
+unfoldable pub digit : (ℕ → Bool) → ℕ → ℕ
+digit t q = elim (t (2 * q + 1)) [ true ↦ 2 * q + 1 | false ↦ 2 * q ]
+
+-- the greatest number up to `top` that passes t, one binary digit for each unit of fuel that is used
+unfoldable pub climb : ℕ → (ℕ → Bool) → ℕ → ℕ
+climb zero t top = 0
+climb (suc fuel) t top = elim (leb 1 top) [ true ↦ digit t (climb fuel (λ p. t (2 * p)) (top / 2)) | false ↦ 0 ]
+
+-- the greatest number that passes t, where 0 passes and none above `top` does
+unfoldable pub greatest : (ℕ → Bool) → ℕ → ℕ
+greatest t top = climb top t top
+
+-- the square root of n, down
+unfoldable pub squareRoot : ℕ → ℕ
+squareRoot n = greatest (λ p. leb (p * p) n) n
+
+-- K times the cube root of N / D, down, "decided by comparing cubes": p is at most that when p³ D ≤ K³ N
+unfoldable pub cubeRoot : ℕ → ℕ → ℕ → ℕ
+cubeRoot K N D = greatest (λ p. leb (p * p * p * D) (K * K * K * N)) (K * suc (N / D))

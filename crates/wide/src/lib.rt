@@ -1,0 +1,94 @@
+// Numbers of two words, by value: product, sum, comparison, and the quotient rounded down.
+ghost use mathlib.Core.Path.{_≡_};
+ghost use Prim.Native.Nat.{_+_, _*_, _/_, _^_, _<_};
+ghost use lib.Dec.{leb};
+ghost use Rattle.wide.specs.Words.{value};
+
+pub mod roots;
+pub mod signed;
+
+// hi × 2^64 + lo.
+pub struct Wide {
+    pub hi: u64,
+    pub lo: u64,
+}
+
+const HALF: u64 = 4294967296;
+
+// What a quotient must be below: 2^26.
+const QUOTIENT_END: u32 = 67108864;
+
+// The product of two words, by halves of 32 bits, column by column.
+pub fn product(a: u64, b: u64) -> Wide
+    ensures { λ r. ⌜ value r ≡ a * b ⌝ }
+{
+    let a0 = a % HALF;
+    let a1 = a / HALF;
+    let b0 = b % HALF;
+    let b1 = b / HALF;
+    let w = a0 * b0;
+    let t = a1 * b0 + w / HALF;
+    let m = t % HALF + a0 * b1;
+    Wide {
+        hi: a1 * b1 + t / HALF + m / HALF,
+        lo: m % HALF * HALF + w % HALF,
+    }
+}
+
+// Whether a is at most b.
+pub fn at_most(a: Wide, b: Wide) -> bool
+    ensures { λ r. ⌜ r ≡ leb (value a) (value b) ⌝ }
+{
+    if a.hi == b.hi {
+        return a.lo <= b.lo;
+    }
+    a.hi < b.hi
+}
+
+// a + b.
+pub fn sum(a: Wide, b: Wide) -> Wide
+    requires { ⌜ value a + value b < 2 ^ 128 ⌝ }
+    ensures { λ r. ⌜ value r ≡ value a + value b ⌝ }
+{
+    let room = 18446744073709551615 - b.lo;
+    if a.lo <= room {
+        return Wide {
+            hi: a.hi + b.hi,
+            lo: a.lo + b.lo,
+        };
+    }
+    Wide {
+        hi: a.hi + b.hi + 1,
+        lo: a.lo - room - 1,
+    }
+}
+
+// q × d.
+pub fn times(q: u64, d: Wide) -> Wide
+    requires { ⌜ q * value d < 2 ^ 128 ⌝ }
+    ensures { λ r. ⌜ value r ≡ q * value d ⌝ }
+{
+    let p = product(q, d.lo);
+    Wide {
+        hi: q * d.hi + p.hi,
+        lo: p.lo,
+    }
+}
+
+// n / d, down.
+pub fn quotient(n: Wide, d: Wide) -> u32
+    requires { ⌜ (value d < 2 ^ 102) × (value n < 2 ^ 26 * value d) ⌝ }
+    ensures { λ r. ⌜ (r ≡ value n / value d) × (r < 2 ^ 26) ⌝ }
+{
+    let mut lo: u32 = 0;
+    let mut hi: u32 = QUOTIENT_END;
+    while lo + 1 < hi {
+        let mid = (lo + hi) / 2;
+        if at_most(times(mid as u64, d), n) {
+            lo = mid;
+        } else {
+            hi = mid;
+        }
+    }
+    lo
+}
