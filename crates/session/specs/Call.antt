@@ -1,0 +1,13 @@
+-- Document 01, "Session": the calls, each with its arguments other than the session. Assumes nothing.
+use mathlib.Core.List.{List}
+use Prim.Native.Nat.{ℕ}
+use Rattle.cie.specs.declared.Space.{Space}
+use Rattle.cie.specs.Sums.{Tables}
+
+pub data Call : Type 0 where
+  open-tables : Tables → Call
+  open-light : ℕ → Call
+  set-standard : List ℕ → Call
+  set-tolerance : Space → ℕ → Call
+  trial : List ℕ → Call
+  report : Call
