@@ -1,0 +1,153 @@
+-- The loops that test: what is left, tested from here, decides as the whole does, since what is passed has passed. Assumes nothing.
+use mathlib.Core.Path.{_≡_, refl, sym, ap, _∙_}
+use mathlib.Core.Bool.{Bool, true, false, _&&_, _||_, not, cond, or-assoc}
+use Prim.Native.Nat.{ℕ, suc, _+_, _*_, _≤_, _<_}
+use native.Mathlib.Omega.{arith}
+use native.Mathlib.Nat.{mul-zero}
+use native.Mathlib.Numerals.{add-one}
+use mathlib.Core.List.{List, [], _∷_, _++_}
+use lib.ListN.{length, getD, drop, drop-of-length-le}
+use lib.Seq.{drop-cons}
+use lib.Dec.{ltb, eqb}
+use borrow.Author.Tests.{lt-ltb, le-ltb, eq-eqb, ne-eqb, eqb-true, eqb-false, not-true, not-false}
+use Rattle.cie.specs.Scales.{anyAbove}
+use Rattle.endian.specs.Bytes.{at16, at32, words}
+use Rattle.endian.proofs.Words.{words-add}
+use Rattle.book.specs.Book.{entryLength, bodyLength, rising, startsWith, entryOk, entriesOk, isIn, indexOf}
+
+-- the arms of `if !f(x)`, where f ensures what its result is
+pub fails : {a b : Bool} → a ≡ b → not a ≡ true → b ≡ false
+fails {a} e t = sym e ∙ not-true a t
+
+pub holds : {a b : Bool} → a ≡ b → not a ≡ false → b ≡ true
+holds {a} e t = sym e ∙ not-false a t
+
+-- tests of equality that come to the same
+pub eqb-same : (a b c d : ℕ) → (a ≡ b → c ≡ d) → (c ≡ d → a ≡ b) → eqb a b ≡ eqb c d
+eqb-same a b c d f g = go (eqb c d) refl
+  where
+    go : (t : Bool) → eqb c d ≡ t → eqb a b ≡ t
+    go true e = eq-eqb a b (g (eqb-true c d e))
+    go false e = ne-eqb a b (λ h. eqb-false c d e (f h))
+
+-- numbers that rise
+module _ (l : List ℕ) (i before : ℕ) (h : i < length l) where
+  rising-first : rising before (drop i l) ≡ (ltb before (getD l i 0) && rising (getD l i 0) (drop (i + 1) l))
+  unfolding rising
+  rising-first = rw (add-one, drop-cons l i 0 h)
+
+  pub rising-on : before < getD l i 0 → rising (getD l i 0) (drop (i + 1) l) ≡ rising before (drop i l)
+  rising-on k = rw (rising-first, lt-ltb before (getD l i 0) k)
+
+  pub rising-off : getD l i 0 ≤ before → false ≡ rising before (drop i l)
+  rising-off k = rw (rising-first, le-ltb before (getD l i 0) k)
+
+pub rising-end : (l : List ℕ) (i before : ℕ) → length l ≤ i → true ≡ rising before (drop i l)
+unfolding rising
+rising-end l i before h = rw (drop-of-length-le l h)
+
+-- bytes that begin with a text
+module _ (p s : List ℕ) (i : ℕ) (h : i < length p) (k : i < length s) where
+  starts-first : startsWith (drop i p) (drop i s) ≡ (eqb (getD s i 0) (getD p i 0) && startsWith (drop (i + 1) p) (drop (i + 1) s))
+  unfolding startsWith
+  starts-first = rw (add-one, drop-cons p i 0 h, drop-cons s i 0 k)
+
+  pub starts-on : getD s i 0 ≡ getD p i 0 → startsWith (drop (i + 1) p) (drop (i + 1) s) ≡ startsWith (drop i p) (drop i s)
+  starts-on e = rw (starts-first, eq-eqb (getD s i 0) (getD p i 0) e)
+
+  pub starts-off : (getD s i 0 ≡ getD p i 0 → ⊥) → false ≡ startsWith (drop i p) (drop i s)
+  starts-off e = rw (starts-first, ne-eqb (getD s i 0) (getD p i 0) e)
+
+pub starts-end : (p s : List ℕ) (i : ℕ) → length p ≤ i → true ≡ startsWith (drop i p) (drop i s)
+unfolding startsWith
+starts-end p s i h = rw (drop-of-length-le p h)
+
+-- an entry, by the numbers that the code reads
+module _ (rows : ℕ) (s : List ℕ) (at before offset : ℕ) {k : ℕ} (p : k ≡ at16 s at) where
+  pub entry-low : k ≤ before → false ≡ entryOk rows s at before offset
+  unfolding entryOk
+  entry-low h = rw (le-ltb before (at16 s at) (omega arith))
+
+  module _ (h : before < k) {l : ℕ} (q : l ≡ at16 s (at + 2)) where
+    pub entry-long : (l ≡ bodyLength rows → ⊥) → false ≡ entryOk rows s at before offset
+    unfolding entryOk
+    entry-long g = rw (lt-ltb before (at16 s at) (omega arith), ne-eqb (at16 s (at + 2)) (bodyLength rows) (λ e. g (q ∙ e)))
+
+    pub entry-last : l ≡ bodyLength rows → {o : ℕ} → o ≡ at32 s (at + 4) → eqb o offset ≡ entryOk rows s at before offset
+    unfolding entryOk
+    entry-last g {o} r = rw (lt-ltb before (at16 s at) (omega arith), eq-eqb (at16 s (at + 2)) (bodyLength rows) (sym q ∙ g)) (ap (λ (x : ℕ). eqb x offset) r)
+
+-- the entries
+module _ (rows : ℕ) (s : List ℕ) (at before offset m : ℕ) {n : ℕ} (more : n ≡ suc m) where
+  entries-first : entriesOk rows s at before offset n
+      ≡ (entryOk rows s at before offset && entriesOk rows s (at + entryLength) (at16 s at) (offset + bodyLength rows) m)
+  unfolding entriesOk
+  entries-first = ap (λ (k : ℕ). entriesOk rows s at before offset k) more
+
+  pub entries-off : entryOk rows s at before offset ≡ false → false ≡ entriesOk rows s at before offset n
+  entries-off h = rw (entries-first, h)
+
+  pub entries-on : entryOk rows s at before offset ≡ true → {k : ℕ} → k ≡ at16 s at
+      → entriesOk rows s (at + entryLength) k (offset + bodyLength rows) m ≡ entriesOk rows s at before offset n
+  entries-on h p = rw (entries-first, h) (ap (λ (x : ℕ). entriesOk rows s (at + entryLength) x (offset + bodyLength rows) m) p)
+
+pub entries-end : (rows : ℕ) (s : List ℕ) (at before offset n : ℕ) → n ≤ 0 → true ≡ entriesOk rows s at before offset n
+unfolding entriesOk
+entries-end rows s at before offset n h = let e : n ≡ 0 = omega arith in rw e
+
+-- readings above a limit, body by body
+above-append : (limit : ℕ) (xs ys : List ℕ) → anyAbove limit (xs ++ ys) ≡ (anyAbove limit xs || anyAbove limit ys)
+unfolding anyAbove
+above-append limit [] ys = refl
+above-append limit (x ∷ xs) ys =
+    ap (λ (t : Bool). ltb limit x || t) (above-append limit xs ys) ∙ sym (or-assoc (ltb limit x) (anyAbove limit xs) (anyAbove limit ys))
+
+module _ (limit rows : ℕ) (s : List ℕ) (at m : ℕ) {n : ℕ} (more : n ≡ suc m) where
+  bodies-first : anyAbove limit (words s at 2 (rows * n)) ≡ (anyAbove limit (words s at 2 rows) || anyAbove limit (words s (at + bodyLength rows) 2 (rows * m)))
+  bodies-first =
+      let e : rows * n ≡ rows + rows * m = ap (λ (k : ℕ). rows * k) more ∙ omega arith in
+      ap (λ (k : ℕ). anyAbove limit (words s at 2 k)) e ∙ ap (anyAbove limit) (words-add s rows (rows * m) at 2)
+      ∙ above-append limit (words s at 2 rows) (words s (at + bodyLength rows) 2 (rows * m))
+
+  pub bodies-on : anyAbove limit (words s at 2 rows) ≡ false → anyAbove limit (words s (at + bodyLength rows) 2 (rows * m)) ≡ anyAbove limit (words s at 2 (rows * n))
+  bodies-on h = rw (bodies-first, h)
+
+  pub bodies-off : anyAbove limit (words s at 2 rows) ≡ true → true ≡ anyAbove limit (words s at 2 (rows * n))
+  bodies-off h = rw (bodies-first, h)
+
+pub bodies-end : (limit rows : ℕ) (s : List ℕ) (at n : ℕ) → n ≤ 0 → false ≡ anyAbove limit (words s at 2 (rows * n))
+unfolding anyAbove words
+bodies-end limit rows s at n h = let z : n ≡ 0 = omega arith in let e : rows * n ≡ 0 = ap (λ (k : ℕ). rows * k) z ∙ mul-zero rows in rw e
+
+-- the place of a number
+module _ (l : List ℕ) (i k : ℕ) (h : i < length l) where
+  pub index-here : getD l i 0 ≡ k → indexOf k (drop i l) ≡ 0
+  unfolding indexOf
+  index-here e = rw (drop-cons l i 0 h, eq-eqb (getD l i 0) k e)
+
+  pub index-on : (getD l i 0 ≡ k → ⊥) → indexOf k (drop i l) ≡ suc (indexOf k (drop (i + 1) l))
+  unfolding indexOf
+  index-on e = rw (add-one, drop-cons l i 0 h, ne-eqb (getD l i 0) k e)
+
+pub index-end : (l : List ℕ) (i k : ℕ) → length l ≤ i → indexOf k (drop i l) ≡ 0
+unfolding indexOf
+index-end l i k h = rw (drop-of-length-le l h)
+
+-- a number is in a list where its place is in the list
+pub in-list : (k : ℕ) (xs : List ℕ) → indexOf k xs < length xs → isIn k xs ≡ true
+unfolding indexOf isIn
+in-list k [] h = absurd (omega arith)
+in-list k (x ∷ xs) h = go (in-list k xs) (eqb x k) h
+  where
+    go : (indexOf k xs < length xs → isIn k xs ≡ true) → (t : Bool) → cond t 0 (suc (indexOf k xs)) < suc (length xs) → (t || isIn k xs) ≡ true
+    go next true g = refl
+    go next false g = next (omega arith)
+
+pub not-in-list : (k : ℕ) (xs : List ℕ) → length xs ≤ indexOf k xs → isIn k xs ≡ false
+unfolding indexOf isIn
+not-in-list k [] h = refl
+not-in-list k (x ∷ xs) h = go (not-in-list k xs) (eqb x k) h
+  where
+    go : (length xs ≤ indexOf k xs → isIn k xs ≡ false) → (t : Bool) → suc (length xs) ≤ cond t 0 (suc (indexOf k xs)) → (t || isIn k xs) ≡ false
+    go next true g = absurd (omega arith)
+    go next false g = next (omega arith)

@@ -1,0 +1,4 @@
+pub mod Stores
+pub mod Parts
+pub mod Words
+pub mod Signed
