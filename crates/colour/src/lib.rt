@@ -2,9 +2,12 @@
 ghost use mathlib.Core.Path.{_≡_};
 ghost use Rattle.cie.specs.Sums.{White, AtMostTwice};
 ghost use Rattle.cie.specs.Colour.{colourOf};
-ghost use Rattle.colour.specs.Conditions.{whitePointOf};
+ghost use Rattle.colour.specs.Weights.{Spectrum};
+ghost use Rattle.colour.specs.Conditions.{whitePointOf, Sound};
+ghost use Rattle.colour.specs.Colours.{colourUnder};
 use cie::Colour;
 use cie::Sums;
+use conditions::Conditions;
 use conditions::WhitePoint;
 
 pub mod conditions;
@@ -35,4 +38,13 @@ pub fn colour_of(sums: Sums, white: WhitePoint) -> Colour
         cab: coordinates::chroma_of(ab),
         cuv: coordinates::chroma_of(uv),
     }
+}
+
+// The colour of a spectrum under conditions.
+pub fn colour_under(conditions: Conditions, readings: &[u16]) -> Colour
+    requires { ⌜ Sound conditions × Spectrum (now readings) ⌝ }
+    ensures { λ r. ⌜ r ≡ colourUnder conditions (now (readings .entry)) ⌝ }
+{
+    let sums = weights::sums_of(readings, &conditions.x, &conditions.y, &conditions.z);
+    colour_of(sums, conditions.white)
 }

@@ -59,11 +59,15 @@ module _ (s : Session) (readings : List ℕ) where
   abbrev answer : Measured
   answer = measuredBy (s .conditions .x) (s .conditions .y) (s .conditions .z) readings
 
+  found : {standard : Colour} → s .standard ≡ Of standard → not (hasStandard (s .standard)) ≡ false
+  found = ap (λ (x : Standard). not (hasStandard x))
+
   module _ (opened : not (s .opened) ≡ false) where
     pub standard-refused : {m : Measured} {cause : Cause} → m ≡ answer → m ≡ Refused cause → served s (set-standard readings) ≡ refusedBy s cause
     standard-refused e told = passes _ _ _ _ _ opened ∙ refuses _ _ _ _ (measured-refused _ _ _ _ _ (sym e ∙ told))
 
-    pub standard-whole : {m : Measured} {sums : Sums} {colour : Colour} → m ≡ answer → m ≡ Whole sums → colour ≡ colourOf (s .conditions .white .sums) sums → served s (set-standard readings) ≡ standardBy s colour
+    pub standard-whole : {m : Measured} {sums : Sums} {colour : Colour} → m ≡ answer → m ≡ Whole sums →
+        colour ≡ colourOf (s .conditions .white .sums) sums → served s (set-standard readings) ≡ standardBy s colour
     standard-whole e told k =
         let w = measured-whole _ _ _ _ _ (sym e ∙ told) in
         passes _ _ _ _ _ opened
@@ -75,27 +79,27 @@ module _ (s : Session) (readings : List ℕ) where
     trial-missing e = passes _ _ _ _ _ opened ∙ fires _ _ _ _ _ (ap (λ (x : Standard). not (hasStandard x)) e)
 
     module _ {standard : Colour} (held : s .standard ≡ Of standard) where
-      found : not (hasStandard (s .standard)) ≡ false
-      found = ap (λ (x : Standard). not (hasStandard x)) held
-
       pub trial-intolerant : hasTolerance (s .tolerance) ≡ false → trialReply s readings ≡ refusedBy s NoTolerance
-      trial-intolerant e = passes _ _ _ _ _ opened ∙ passes _ _ _ _ _ found ∙ fires _ _ _ _ _ (ap not e)
+      trial-intolerant e = passes _ _ _ _ _ opened ∙ passes _ _ _ _ _ (found held) ∙ fires _ _ _ _ _ (ap not e)
 
       pub trial-full : hasTolerance (s .tolerance) ≡ true → countOf (s .tallies) ≡ sessionLimit → trialReply s readings ≡ refusedBy s SessionFull
-      trial-full t e = passes _ _ _ _ _ opened ∙ passes _ _ _ _ _ found ∙ passes _ _ _ _ _ (ap not t) ∙ fires _ _ _ _ _ (eq-eqb _ _ e)
+      trial-full t e = passes _ _ _ _ _ opened ∙ passes _ _ _ _ _ (found held) ∙ passes _ _ _ _ _ (ap not t) ∙ fires _ _ _ _ _ (eq-eqb _ _ e)
 
   module _ {standard : Colour} (r : Ready s standard) where
-    past-tests : (f : Cause → Reply) (a : Reply) → unless (firstOf (trialChecks (s .opened) (hasStandard (s .standard)) (hasTolerance (s .tolerance)) (countOf (s .tallies)) readings)) f a ≡ unless (firstOf (spectrumChecks readings)) f a
+    past-tests : (f : Cause → Reply) (a : Reply) →
+        unless (firstOf (trialChecks (s .opened) (hasStandard (s .standard)) (hasTolerance (s .tolerance)) (countOf (s .tallies)) readings)) f a
+        ≡ unless (firstOf (spectrumChecks readings)) f a
     past-tests f a =
         passes _ _ _ _ _ (r .opened)
-        ∙ passes _ _ _ _ _ (ap (λ (x : Standard). not (hasStandard x)) (r .held))
+        ∙ passes _ _ _ _ _ (found (r .held))
         ∙ passes _ _ _ _ _ (ap not (r .tolerant))
         ∙ passes _ _ _ _ _ (ne-eqb _ _ (r .room))
 
     pub trial-refused : {m : Measured} {cause : Cause} → m ≡ answer → m ≡ Refused cause → trialReply s readings ≡ refusedBy s cause
     trial-refused e told = past-tests _ _ ∙ refuses _ _ _ _ (measured-refused _ _ _ _ _ (sym e ∙ told))
 
-    pub trial-whole : {m : Measured} {sums : Sums} {colour : Colour} {j : Judged} → m ≡ answer → m ≡ Whole sums → colour ≡ colourOf (s .conditions .white .sums) sums → j ≡ judgedOf (s .tolerance) standard colour → trialReply s readings ≡ triedBy s colour j
+    pub trial-whole : {m : Measured} {sums : Sums} {colour : Colour} {j : Judged} → m ≡ answer → m ≡ Whole sums →
+        colour ≡ colourOf (s .conditions .white .sums) sums → j ≡ judgedOf (s .tolerance) standard colour → trialReply s readings ≡ triedBy s colour j
     trial-whole {m} {sums} {colour} e told k h =
         let w = measured-whole _ _ _ _ _ (sym e ∙ told) in
         past-tests _ _

@@ -105,13 +105,14 @@ impl Session {
     fn reopened(self, conditions: Conditions) -> Served
         ensures { λ r. ⌜ shown r ≡ openedBy self conditions ⌝ }
     {
+        let standard = Standard::Missing;
         let tolerance = self.tolerance;
         let tallies = self.tallies;
         Served {
             session: Session {
                 conditions: conditions,
                 opened: true,
-                standard: Standard::Missing,
+                standard: standard,
                 tolerance: tolerance,
                 tallies: tallies,
             },
@@ -249,8 +250,7 @@ impl Session {
         let Judged::By(e, verdict) = rules::judge(tolerance, standard, colour) else {
             return self.refused(Cause::NoTolerance);
         };
-        let next = rules::tallied(tallies, verdict);
-        self.tallies = next;
+        self.tallies = rules::tallied(tallies, verdict);
         Served {
             session: self,
             answer: Answer::Tried(colour, e, verdict),

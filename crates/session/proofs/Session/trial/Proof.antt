@@ -19,24 +19,26 @@ unopened c = meets _ _ _ (c .before .before .before .pre) (c .refused .ensures �
 missing : tie.Need-returns-2
 missing c =
     let test = c .before .before .before in
-    meets _ _ _ (test .before .before .pre) (c .refused2 .ensures ∙ sym (trial-missing _ (now (test .before .before .args .readings)) (test .if1 .left) (c .before .enum-told .given .1)))
+    let s = test .before .before in
+    meets _ _ _ (s .pre) (c .refused2 .ensures ∙ sym (trial-missing _ (now (s .args .readings)) (test .if1 .left) (c .before .enum-told .given .1)))
 
 intolerant : tie.Need-returns-3
 intolerant c =
     let found = c .before .before .before .before in
     let test = found .before .before in
-    meets _ _ _ (test .before .before .pre)
-    (c .refused3 .ensures ∙ sym (trial-intolerant _ (now (test .before .before .args .readings)) (test .if1 .left) (found .held .given .1) (sym (c .before .before .has-tolerance .ensures) ∙ not-true _ (c .before .if2 .taken))))
+    let s = test .before .before in
+    let none = sym (c .before .before .has-tolerance .ensures) ∙ not-true _ (c .before .if2 .taken) in
+    meets _ _ _ (s .pre) (c .refused3 .ensures ∙ sym (trial-intolerant _ (now (s .args .readings)) (test .if1 .left) (found .held .given .1) none))
 
 full : tie.Need-returns-4
 full c =
     let tolerance = c .before .before .before .before in
     let found = tolerance .before .before .before in
     let test = found .before .before in
-    meets _ _ _ (test .before .before .pre)
-    (c .refused4 .ensures
-    ∙ sym
-    (trial-full _ (now (test .before .before .args .readings)) (test .if1 .left) (found .held .given .1) (sym (tolerance .before .has-tolerance .ensures) ∙ not-false _ (tolerance .if2 .left)) (sym (c .before .before .count-of .ensures) ∙ c .before .if3 .taken)))
+    let s = test .before .before in
+    let some = sym (tolerance .before .has-tolerance .ensures) ∙ not-false _ (tolerance .if2 .left) in
+    let count = sym (c .before .before .count-of .ensures) ∙ c .before .if3 .taken in
+    meets _ _ _ (s .pre) (c .refused4 .ensures ∙ sym (trial-full _ (now (s .args .readings)) (test .if1 .left) (found .held .given .1) some count))
 
 -- where the fourth test is passed: what was given, and what the tests showed
 abbrev start : tie.Else3 → tie.Start
@@ -80,14 +82,18 @@ judge-requires c κs =
     let told = c .before .before .before in
     let m = told .before .before in
     let tests = m .before .before .before .before .before in
-    let s = start tests in
-    (subst SizedStandard (ready tests .held) (s .pre .standard), measured-sized (s .args .t1 .conditions) (s .pre .sound) _ (m .measure .ensures) (told .measured .given .1) (c .colour-of .ensures))
+    let s = start tests in (
+      subst SizedStandard (ready tests .held) (s .pre .standard),
+      measured-sized (s .args .t1 .conditions) (s .pre .sound) _ (m .measure .ensures) (told .measured .given .1) (c .colour-of .ensures),
+    )
 
 -- where the two colours are judged
 abbrev tests : tie.After-judge → tie.Else3
 tests c = c .before .before .before .before .before .before .before .before .before .before .before
 
-measured : (c : tie.After-judge) → trialReply (start (tests c) .args .t1) (now (start (tests c) .args .readings)) ≡ triedBy (start (tests c) .args .t1) (c .before .colour-of .result) (c .judge .result)
+measured : (c : tie.After-judge) →
+    trialReply (start (tests c) .args .t1) (now (start (tests c) .args .readings))
+    ≡ triedBy (start (tests c) .args .t1) (c .before .colour-of .result) (c .judge .result)
 measured c =
     let told = c .before .before .before .before in
     trial-whole _ _ (ready (tests c)) (told .before .before .measure .ensures) (told .measured .given .1) (c .before .colour-of .ensures) (c .judge .ensures)

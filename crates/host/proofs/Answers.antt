@@ -1,0 +1,102 @@
+-- What the host's call answers and leaves, from the colour or the cause that it found: the buffer's check comes after theirs, and the five
+-- numbers are stored one after the other. Assumes nothing.
+use mathlib.Core.Path.{_≡_, refl, sym, ap, _∙_, subst}
+use mathlib.Core.List.{List, [], _∷_, _++_}
+use Prim.Native.Nat.{ℕ, _+_, _≤_, _<_}
+use native.Mathlib.Omega.{arith}
+use borrow.Author.Tests.{lt-ltb, le-ltb}
+use lib.Dec.{ltb}
+use lib.IntN.{ℤ, pos}
+use lib.ListN.{length, drop}
+use lib.Seq.{sets}
+use Rattle.causes.specs.declared.Cause.{Cause}
+use Rattle.causes.specs.declared.Cause.the-variants.{ShortBuffer}
+use Rattle.causes.specs.declared.Checked.{Checked}
+use Rattle.causes.specs.declared.Checked.the-variants.{Clear, Because}
+use Rattle.causes.specs.Causes.{causeNumber}
+use Rattle.causes.specs.Checks.{check, firstOf, unless}
+use Rattle.causes.proofs.Checks.{fires, passes, ends, refuses, clear-head, clear-tail}
+use Rattle.cie.specs.declared.Colour.{Colour}
+use Rattle.cie.specs.Sizes.{Sized}
+use Rattle.cie.proofs.RowSums.{at-most-twice}
+use Rattle.cie.proofs.Sizes.{colour-sized}
+use Rattle.colour.specs.Conditions.{lightTables}
+use Rattle.colour.proofs.Preparing.{sound-light}
+use Rattle.endian.specs.Bytes.{littleEndian, le32, twos}
+use Rattle.endian.proofs.Parts.{length-littleEndian}
+use Rattle.endian.proofs.Stores.{sets-then, sets-front}
+use Rattle.host.specs.declared.Coloured.the-variants.{Whole, Refused}
+use Rattle.host.specs.Host.{readingsOf, answerLength, answerOf, colourChecks, hostChecks, lightColour, colouredOf, answered, bufferAfter}
+use Rattle.host.proofs.Spectra.{first-because, first-clear}
+
+-- stores
+pub pair-put : (d : List ℕ) (at : ℕ) (p q : ℤ) {e g : List ℕ} → e ≡ sets d at (le32 (twos p)) → g ≡ sets e (at + 4) (le32 (twos q))
+    → g ≡ sets d at (le32 (twos p) ++ le32 (twos q))
+pair-put d at p q h k =
+    k ∙ ap (λ (l : List ℕ). sets l (at + 4) (le32 (twos q))) h ∙ sets-then d at 4 (le32 (twos p)) (le32 (twos q)) (length-littleEndian 4 (twos p))
+
+length-answer : (c : Colour) → length (answerOf c) ≡ answerLength
+unfolding answerOf littleEndian
+length-answer c = refl
+
+stores : (d : List ℕ) (c : Colour)
+    → sets (sets (sets d 0 (le32 (twos (pos (c .l))))) 4 (le32 (twos (c .a)) ++ le32 (twos (c .b)))) 12 (le32 (twos (c .u)) ++ le32 (twos (c .v)))
+    ≡ sets d 0 (answerOf c)
+unfolding answerOf littleEndian
+stores d c = refl
+
+pub answer-put : (d : List ℕ) (c : Colour) {l a b u v : ℤ} {e f g : List ℕ} → l ≡ pos (c .l) → a ≡ c .a → b ≡ c .b → u ≡ c .u → v ≡ c .v
+    → e ≡ sets d 0 (le32 (twos l)) → f ≡ sets e 4 (le32 (twos a) ++ le32 (twos b)) → g ≡ sets f 12 (le32 (twos u) ++ le32 (twos v))
+    → g ≡ sets d 0 (answerOf c)
+answer-put d c el ea eb eu ev p₁ p₂ p₃ = p₃ ∙ rw (p₂, p₁, el, ea, eb, eu, ev) (stores d c)
+
+-- what was found says what its checks found
+by-refused : (t : Checked) (k : Colour) (c : Cause) → Refused c ≡ unless t Refused (Whole k) → t ≡ Because c
+unfolding unless
+by-refused Clear k c e = cc
+by-refused (Because d) k c e = cc
+
+by-whole : (t : Checked) (k c : Colour) → Whole c ≡ unless t Refused (Whole k) → (t ≡ Clear) × (c ≡ k)
+unfolding unless
+by-whole Clear k c e = (refl, cc)
+by-whole (Because d) k c e = (cc, cc)
+
+module _ (light : ℕ) (bytes : List ℕ) where
+  found-because : (c : Cause) → Refused c ≡ colouredOf light bytes → firstOf (colourChecks light bytes) ≡ Because c
+  unfolding colouredOf
+  found-because c = by-refused (firstOf (colourChecks light bytes)) (lightColour light (readingsOf bytes)) c
+
+  found-colour : (c : Colour) → Whole c ≡ colouredOf light bytes → (firstOf (colourChecks light bytes) ≡ Clear) × (c ≡ lightColour light (readingsOf bytes))
+  unfolding colouredOf
+  found-colour c = by-whole (firstOf (colourChecks light bytes)) (lightColour light (readingsOf bytes)) c
+
+  pub found-sized : (c : Colour) → Whole c ≡ colouredOf light bytes → Sized c
+  unfolding lightColour
+  found-sized c e =
+      let f = found-colour c e in
+      let fair = clear-head _ _ _ (clear-tail _ _ _ (clear-tail _ _ _ (f .0))) in
+      subst Sized (sym (f .1)) (colour-sized (sound-light light .white) (at-most-twice (lightTables light) (readingsOf bytes) fair))
+
+  -- the returns
+  module _ (b : List ℕ) where
+    pub refused : (c : Cause) → Refused c ≡ colouredOf light bytes → (causeNumber c ≡ answered light bytes (length b)) × (b ≡ bufferAfter light bytes b)
+    unfolding answered bufferAfter
+    refused c e =
+        let f = first-because (colourChecks light bytes) _ c (found-because c e) in
+        (sym (refuses _ _ _ c f), sym (refuses _ _ _ c f))
+
+    module _ (c : Colour) (e : Whole c ≡ colouredOf light bytes) where
+      rest : firstOf (hostChecks light bytes (length b)) ≡ firstOf (check (ltb (length b) answerLength) ShortBuffer ∷ [])
+      rest = first-clear (colourChecks light bytes) _ (found-colour c e .0)
+
+      pub no-room : length b < answerLength → (causeNumber ShortBuffer ≡ answered light bytes (length b)) × (b ≡ bufferAfter light bytes b)
+      unfolding answered bufferAfter
+      no-room h = rw rest (sym (fires _ _ _ _ _ (lt-ltb _ _ h)), sym (fires _ _ _ _ _ (lt-ltb _ _ h)))
+
+      pub written : answerLength ≤ length b → {g : List ℕ} → g ≡ sets b 0 (answerOf c) → (_≡_ {A = ℕ} 0 (answered light bytes (length b))) × (g ≡ bufferAfter light bytes b)
+      unfolding answered bufferAfter
+      written h {g} p =
+          let whole : g ≡ answerOf (lightColour light (readingsOf bytes)) ++ drop answerLength b =
+          p ∙ sets-front b (answerOf c) (omega (arith, length-answer c)) ∙ ap (λ (k : ℕ). answerOf c ++ drop k b) (length-answer c)
+          ∙ ap (λ (k : Colour). answerOf k ++ drop answerLength b) (found-colour c e .1) in
+          rw rest (sym (passes _ _ _ _ _ (le-ltb _ _ h) ∙ ends _ _), whole ∙ sym (passes _ _ _ _ _ (le-ltb _ _ h) ∙ ends _ _))

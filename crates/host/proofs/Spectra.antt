@@ -1,0 +1,101 @@
+-- The colour of a spectrum that is held in bytes: its checks run in their order, and a built-in light passes those of its own tables.
+-- Assumes nothing.
+use mathlib.Core.Path.{_≡_, refl, sym, ap, _∙_, subst}
+use mathlib.Core.Bool.{Bool, true, false, not, cond, _||_}
+use mathlib.Core.List.{List, [], _∷_, _++_}
+use Prim.Native.Nat.{ℕ}
+use borrow.Author.Tests.{eq-eqb, ne-eqb}
+use lib.Dec.{eqb}
+use lib.ListN.{length}
+use Rattle.causes.specs.declared.Cause.{Cause}
+use Rattle.causes.specs.declared.Cause.the-variants.{ShortTable, OverBright}
+use Rattle.causes.specs.declared.Checked.the-variants.{Clear, Because}
+use Rattle.causes.specs.Checks.{Check, firstOf}
+use Rattle.causes.proofs.Checks.{fires, passes, ends, refuses, clear-head, clear-tail}
+use Rattle.cie.specs.declared.Sums.{Sums}
+use Rattle.cie.specs.declared.Colour.{Colour}
+use Rattle.cie.specs.Scales.{rows, readingLimit, anyAbove}
+use Rattle.cie.specs.Sums.{whiteOf, AtMostTwice}
+use Rattle.cie.specs.Colour.{colourOf}
+use Rattle.colour.specs.declared.conditions.Conditions.{Conditions}
+use Rattle.colour.specs.declared.conditions.Prepared.{Prepared}
+use Rattle.colour.specs.declared.measure.Measured.{Measured}
+use Rattle.colour.specs.declared.measure.Measured.the-variants as measured
+use Rattle.colour.specs.Conditions.{lightA, lightD65, lightChecks, lightTables, conditionsOf, preparedLight, Sound}
+use Rattle.colour.specs.Colours.{colourUnder}
+use Rattle.colour.specs.Measure.{measuredBy}
+use Rattle.colour.proofs.Dots.{sums-same}
+use Rattle.colour.proofs.Preparing.{opened-because, opened-clear}
+use Rattle.colour.proofs.Measuring.{measured-refused, measured-whole, measured-lit, spectrum-of}
+use Rattle.host.specs.declared.Coloured.the-variants.{Whole, Refused}
+use Rattle.host.specs.Host.{spectrumLength, readingsOf, lightColour, colouredOf}
+
+-- the cause of some checks is that of a longer list, and where they find nothing the rest decides
+pub first-because : (xs ys : List Check) (c : Cause) → firstOf xs ≡ Because c → firstOf (xs ++ ys) ≡ Because c
+unfolding firstOf
+first-because [] ys c e = cc
+first-because (x ∷ xs) ys c e = go (x .holds) (first-because xs ys c) e
+  where
+    go : (b : Bool) → (firstOf xs ≡ Because c → firstOf (xs ++ ys) ≡ Because c) → cond b (Because (x .cause)) (firstOf xs) ≡ Because c
+        → cond b (Because (x .cause)) (firstOf (xs ++ ys)) ≡ Because c
+    go true next h = h
+    go false next h = next h
+
+pub first-clear : (xs ys : List Check) → firstOf xs ≡ Clear → firstOf (xs ++ ys) ≡ firstOf ys
+unfolding firstOf
+first-clear [] ys e = refl
+first-clear (x ∷ xs) ys e = go (x .holds) (first-clear xs ys) e
+  where
+    go : (b : Bool) → (firstOf xs ≡ Clear → firstOf (xs ++ ys) ≡ firstOf ys) → cond b (Because (x .cause)) (firstOf xs) ≡ Clear
+        → cond b (Because (x .cause)) (firstOf (xs ++ ys)) ≡ firstOf ys
+    go true next h = cc
+    go false next h = next h
+
+-- what measuring 81 readings says: they are over-bright, or their sums are at most twice the white's
+module _ (k : Conditions) (r : List ℕ) where
+  pub over-bright : {m : Measured} (c : Cause) → length r ≡ rows → m ≡ measuredBy (k .x) (k .y) (k .z) r → m ≡ measured.Refused c → anyAbove readingLimit r ≡ true
+  unfolding firstOf
+  over-bright c l q e = go (anyAbove readingLimit r) (rw (eq-eqb (length r) rows l) at (measured-refused (k .x) (k .y) (k .z) r c (sym q ∙ e)))
+    where
+      go : (b : Bool) → cond b (Because OverBright) Clear ≡ Because c → b ≡ true
+      go true h = refl
+      go false h = cc
+
+  pub sums-lit : {m : Measured} {s : Sums} → Sound k → m ≡ measuredBy (k .x) (k .y) (k .z) r → m ≡ measured.Whole s → AtMostTwice (k .white .sums) s
+  sums-lit {s = s} h q e =
+      let w = measured-whole (k .x) (k .y) (k .z) r s (sym q ∙ e) in
+      subst (AtMostTwice (k .white .sums)) (sym (w .1)) (measured-lit {c = k} h (spectrum-of r (w .0)))
+
+abbrev dark : ℕ → Bool
+dark light = not (eqb light lightA || eqb light lightD65)
+
+-- what a light's opening says of its check
+module _ (light : ℕ) (p : Prepared) (e : p ≡ preparedLight light) where
+  pub lit : p .checked ≡ Clear → dark light ≡ false
+  lit h = clear-head _ _ _ (opened-clear light p e h .0)
+
+  pub refused-light : (bytes : List ℕ) (c : Cause) → p .checked ≡ Because c → Refused c ≡ colouredOf light bytes
+  unfolding colouredOf
+  refused-light bytes c h = sym (refuses _ _ _ c (first-because (lightChecks light) _ c (opened-because light p e c h)))
+
+-- the other returns, by the tests that led there
+module _ (light : ℕ) (bytes : List ℕ) (l : dark light ≡ false) where
+  pub refused-short : (length bytes ≡ spectrumLength → ⊥) → Refused ShortTable ≡ colouredOf light bytes
+  unfolding colouredOf
+  refused-short h = sym (passes _ _ _ _ _ l ∙ fires _ _ _ _ _ (ap not (ne-eqb _ _ h)))
+
+  module _ (h : length bytes ≡ spectrumLength) {r : List ℕ} (q : r ≡ readingsOf bytes) where
+    pub refused-bright : anyAbove readingLimit r ≡ true → Refused OverBright ≡ colouredOf light bytes
+    unfolding colouredOf
+    refused-bright b = sym (passes _ _ _ _ _ l ∙ passes _ _ _ _ _ (ap not (eq-eqb _ _ h)) ∙ fires _ _ _ _ _ (ap (anyAbove readingLimit) (sym q) ∙ b))
+
+    pub whole : {k : Conditions} {m : Measured} {s : Sums} {c : Colour} → k ≡ conditionsOf (lightTables light)
+        → m ≡ measuredBy (k .x) (k .y) (k .z) r → m ≡ measured.Whole s → c ≡ colourOf (k .white .sums) s → Whole c ≡ colouredOf light bytes
+    unfolding colouredOf lightColour
+    whole {k} {s = s} {c = c} e a m b =
+        let w = measured-whole (k .x) (k .y) (k .z) r s (sym a ∙ m) in
+        let fair = ap (anyAbove readingLimit) (sym q) ∙ clear-head _ _ _ (clear-tail _ _ _ (w .0)) in
+        let colour : c ≡ lightColour light (readingsOf bytes) =
+        b ∙ ap (colourOf (k .white .sums)) (w .1) ∙ ap (λ (x : Conditions). colourUnder x r) e
+        ∙ ap (colourOf (whiteOf (lightTables light))) (sums-same (lightTables light) r) ∙ ap (lightColour light) q in
+        ap Whole colour ∙ sym (passes _ _ _ _ _ l ∙ passes _ _ _ _ _ (ap not (eq-eqb _ _ h)) ∙ passes _ _ _ _ _ fair ∙ ends _ _)

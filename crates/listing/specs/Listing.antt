@@ -1,0 +1,58 @@
+-- Document 01, "Listing and host": the text of a book's listing, as ASCII codes. Assumes nothing.
+use Prim.Native.Nat.{ℕ}
+use mathlib.Core.Bool.{cond}
+use mathlib.Core.List.{List, [], _∷_, _++_}
+use lib.ListN.{getD, take, drop}
+use Rattle.causes.specs.declared.Cause.the-variants.{NotABook}
+use Rattle.causes.specs.Causes.{causeNumber}
+use Rattle.cie.specs.declared.Colour.{Colour}
+use Rattle.cie.specs.Scales.{rows}
+use Rattle.cie.specs.Sums.{whiteOf, sumsOf}
+use Rattle.cie.specs.Colour.{colourOf}
+use Rattle.colour.specs.Conditions.{lightD65, lightTables}
+use Rattle.book.specs.Book.{isBook, numbersOf, readingsOf, spectrumOf}
+use Rattle.text.specs.Text.{decimal, signed}
+
+-- "opens light 2": the colour of a spectrum under it
+unfoldable pub shadeColour : List ℕ → Colour
+shadeColour readings = colourOf (whiteOf (lightTables lightD65)) (sumsOf (lightTables lightD65) readings)
+
+-- a space before a text, and the line feed
+abbrev pub spaced : List ℕ → List ℕ
+spaced text = 32 ∷ text
+
+abbrev pub lineEnd : List ℕ
+lineEnd = 10 ∷ []
+
+-- "one line per shade: shade number, L, a, b, u, v"; "Each line ends with a line feed"
+unfoldable pub lineOf : ℕ → Colour → List ℕ
+lineOf number c =
+    decimal number ++ spaced (decimal (c .l)) ++ spaced (signed (c .a)) ++ spaced (signed (c .b)) ++ spaced (signed (c .u)) ++ spaced (signed (c .v)) ++ lineEnd
+
+-- the lines of some shades: their numbers, and the readings of all, one shade after the other
+unfoldable pub linesOf : List ℕ → List ℕ → List ℕ
+linesOf [] readings = []
+linesOf (k ∷ ks) readings = lineOf k (shadeColour (take rows readings)) ++ linesOf ks (drop rows readings)
+
+-- the line of a book's i-th shade, from 0, and the lines of all
+abbrev pub shadeLine : List ℕ → ℕ → List ℕ
+shadeLine s i = lineOf (getD (numbersOf s) i 0) (shadeColour (spectrumOf rows (readingsOf rows s) i))
+
+abbrev pub shadeLines : List ℕ → List ℕ
+shadeLines s = linesOf (numbersOf s) (readingsOf rows s)
+
+-- the longest line: two numbers of at most 10 digits, four signed ones of at most 11 characters, five spaces and a line feed
+abbrev pub lineRoom : ℕ
+lineRoom = 70
+
+-- "shade L a b u v"
+abbrev pub header : List ℕ
+header = 115 ∷ 104 ∷ 97 ∷ 100 ∷ 101 ∷ 32 ∷ 76 ∷ 32 ∷ 97 ∷ 32 ∷ 98 ∷ 32 ∷ 117 ∷ 32 ∷ 118 ∷ 10 ∷ []
+
+-- "refused 11": the word, and the number of the cause
+abbrev pub refusal : List ℕ
+refusal = (114 ∷ 101 ∷ 102 ∷ 117 ∷ 115 ∷ 101 ∷ 100 ∷ 32 ∷ []) ++ decimal (causeNumber NotABook) ++ lineEnd
+
+-- "prints a header and one line per shade"; "Input that isn't a book prints only the line `refused 11`."
+unfoldable pub listingOf : List ℕ → List ℕ
+listingOf s = cond (isBook rows s) (header ++ shadeLines s) refusal

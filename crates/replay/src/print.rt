@@ -1,0 +1,144 @@
+// Answers as lines of text on standard output.
+ghost use Prim.Native.Nat.{_+_, _≤_};
+ghost use lib.ListN.{length};
+ghost use Rattle.io.specs.Counts.{Counts};
+use cie::Chromaticity;
+use cie::Colour;
+use cie::Verdict;
+use libc::STDOUT_FILENO;
+use session::Answer;
+use session::Difference;
+
+// A space and a number.
+fn put_field(out: &mut [u8], at: usize, n: u32) -> usize
+    requires { ⌜ at + 11 ≤ length (now out) ⌝ }
+    ensures { λ r. ⌜ r ≤ at + 11 ⌝ }
+{
+    let after = text::put(out, at, b" ");
+    text::put_number(out, after, n)
+}
+
+// A space and a signed number.
+fn put_signed_field(out: &mut [u8], at: usize, x: i32) -> usize
+    requires { ⌜ at + 12 ≤ length (now out) ⌝ }
+    ensures { λ r. ⌜ r ≤ at + 12 ⌝ }
+{
+    let after = text::put(out, at, b" ");
+    text::put_signed(out, after, x)
+}
+
+fn put_three(out: &mut [u8], at: usize, a: u32, b: u32, c: u32) -> usize
+    requires { ⌜ at + 33 ≤ length (now out) ⌝ }
+    ensures { λ r. ⌜ r ≤ at + 33 ⌝ }
+{
+    let first = put_field(out, at, a);
+    let second = put_field(out, first, b);
+    put_field(out, second, c)
+}
+
+fn put_chromaticity(out: &mut [u8], at: usize, c: Chromaticity) -> usize
+    requires { ⌜ at + 22 ≤ length (now out) ⌝ }
+    ensures { λ r. ⌜ r ≤ at + 22 ⌝ }
+{
+    match c {
+        Chromaticity::None => text::put(out, at, b" none none"),
+        Chromaticity::At(x, y) => {
+            let after = put_field(out, at, x);
+            put_field(out, after, y)
+        }
+    }
+}
+
+// a, b, u and v.
+fn put_planes(out: &mut [u8], at: usize, c: Colour) -> usize
+    requires { ⌜ at + 48 ≤ length (now out) ⌝ }
+    ensures { λ r. ⌜ r ≤ at + 48 ⌝ }
+{
+    let a = put_signed_field(out, at, c.a);
+    let b = put_signed_field(out, a, c.b);
+    let u = put_signed_field(out, b, c.u);
+    put_signed_field(out, u, c.v)
+}
+
+// X Y Z x y L a b u v Cab Cuv, each after a space.
+fn put_colour(out: &mut [u8], at: usize, c: Colour) -> usize
+    requires { ⌜ at + 136 ≤ length (now out) ⌝ }
+    ensures { λ r. ⌜ r ≤ at + 136 ⌝ }
+{
+    let t = c.tristimulus;
+    let chromaticity = c.chromaticity;
+    let first = put_three(out, at, t.x, t.y, t.z);
+    let second = put_chromaticity(out, first, chromaticity);
+    let third = put_field(out, second, c.l);
+    let fourth = put_planes(out, third, c);
+    let fifth = put_field(out, fourth, c.cab);
+    put_field(out, fifth, c.cuv)
+}
+
+fn put_verdict(out: &mut [u8], verdict: Verdict) -> usize
+    requires { ⌜ 4 ≤ length (now out) ⌝ }
+    ensures { λ r. ⌜ r ≤ 4 ⌝ }
+{
+    match verdict {
+        Verdict::Pass => text::put(out, 0, b"pass"),
+        Verdict::Fail => text::put(out, 0, b"fail"),
+        Verdict::OnTheLine => text::put(out, 0, b"line"),
+    }
+}
+
+fn units_of(e: Difference) -> u32 {
+    match e {
+        Difference::Lab(units) => units.0,
+        Difference::Luv(units) => units.0,
+    }
+}
+
+fn put_tried(out: &mut [u8], colour: Colour, e: Difference, verdict: Verdict) -> usize
+    requires { ⌜ 151 ≤ length (now out) ⌝ }
+    ensures { λ r. ⌜ r ≤ 151 ⌝ }
+{
+    let first = put_verdict(out, verdict);
+    let second = put_field(out, first, units_of(e));
+    put_colour(out, second, colour)
+}
+
+// The answer without its line end.
+fn put_answer(out: &mut [u8], answer: Answer) -> usize
+    requires { ⌜ 151 ≤ length (now out) ⌝ }
+    ensures { λ r. ⌜ r ≤ 151 ⌝ }
+{
+    match answer {
+        Answer::Accepted => text::put(out, 0, b"ok"),
+        Answer::Coloured(colour) => {
+            let after = text::put(out, 0, b"colour");
+            put_colour(out, after, colour)
+        }
+        Answer::Tried(colour, e, verdict) => put_tried(out, colour, e, verdict),
+        Answer::Counted(t) => {
+            let after = text::put(out, 0, b"tallies");
+            put_three(out, after, t.passed, t.failed, t.line)
+        }
+        Answer::Refused(cause) => {
+            let after = text::put(out, 0, b"refused");
+            put_field(out, after, causes::number(cause))
+        }
+    }
+}
+
+// The whole line of an answer.
+fn put_line(out: &mut [u8; 256], answer: Answer) -> usize
+    ensures { λ r. ⌜ Counts r (now (out .exit)) ⌝ }
+{
+    let at = put_answer(out, answer);
+    text::put(out, at, b"\n")
+}
+
+pub fn print(answer: Answer) {
+    let mut out = [0u8; 256];
+    let n = put_line(&mut out, answer);
+    io::write_all(STDOUT_FILENO, &out[..n]);
+}
+
+pub fn print_unreadable() {
+    io::write_all(STDOUT_FILENO, b"unreadable\n");
+}

@@ -1,0 +1,116 @@
+"""The ledger of document 01: what a list of calls must answer.
+
+Every call returns its answer or raises Refused; a refusal leaves the ledger as it was.
+"""
+
+from collections import namedtuple
+
+from colour import colour, conditions, difference
+from tables import LENGTH, LIGHTS, OBSERVER
+
+SHORT_TABLE, OVER_BRIGHT, OFF_SCALE_CONDITION, DARK_WHITE, LOPSIDED_WHITE = 1, 2, 3, 4, 5
+NO_CONDITIONS, NO_STANDARD, NO_TOLERANCE, TOLERANCE_OFF_SCALE, SESSION_FULL = 6, 7, 8, 9, 10
+NO_SUCH_LIGHT = 16
+
+READING_LIMIT = 20_000
+ILLUMINANT_LIMIT = 3_000_000
+OBSERVER_LIMIT = 2_000_000
+TOLERANCE_LIMIT = 1_000_000
+TALLY_LIMIT = 100_000
+
+GUARD = {"lab": 12, "luv": 114}  # g
+VERDICTS = ("pass", "fail", "line")
+
+Tolerance = namedtuple("Tolerance", "space amount")
+Trial = namedtuple("Trial", "verdict difference colour")
+
+
+class Refused(Exception):
+    def __init__(self, cause):
+        super().__init__(cause)
+        self.cause = cause
+
+
+def refuse_when(*checks):
+    """Runs (cause, condition) pairs in order; the first condition that holds refuses."""
+    for cause, condition in checks:
+        if condition():
+            raise Refused(cause)
+
+
+def spectrum_checks(spectrum):
+    return (
+        (SHORT_TABLE, lambda: len(spectrum) != LENGTH),
+        (OVER_BRIGHT, lambda: max(spectrum) > READING_LIMIT),
+    )
+
+
+def built_in(light):
+    refuse_when((NO_SUCH_LIGHT, lambda: light not in LIGHTS))
+    return conditions(LIGHTS[light], OBSERVER)
+
+
+def from_tables(illuminant, observer):
+    refuse_when(
+        (SHORT_TABLE, lambda: any(len(table) != LENGTH for table in (illuminant, *observer))),
+        (OFF_SCALE_CONDITION, lambda: max(illuminant) > ILLUMINANT_LIMIT
+            or any(max(column) > OBSERVER_LIMIT for column in observer)),
+    )
+    entered = conditions(illuminant, observer)
+    Xn, Yn, Zn = entered.white
+    refuse_when(
+        (DARK_WHITE, lambda: 0 in (Xn, Yn, Zn)),
+        (LOPSIDED_WHITE, lambda: Xn > 10 * Yn or Zn > 10 * Yn),
+    )
+    return entered
+
+
+def judge(space, E, T):
+    g = GUARD[space]
+    if E + g <= T:
+        return "pass"
+    return "fail" if E >= T + g else "line"
+
+
+class Ledger:
+    def __init__(self):
+        self.conditions = None
+        self.standard = None
+        self.tolerance = None
+        self.counts = dict.fromkeys(VERDICTS, 0)
+
+    def open_light(self, light):
+        self.enter(built_in(light))
+
+    def open_tables(self, illuminant, x, y, z):
+        self.enter(from_tables(illuminant, (x, y, z)))
+
+    def enter(self, entered):
+        self.conditions, self.standard = entered, None
+
+    def enter_standard(self, spectrum):
+        refuse_when((NO_CONDITIONS, lambda: self.conditions is None), *spectrum_checks(spectrum))
+        self.standard = tuple(spectrum)
+        return colour(spectrum, self.conditions)
+
+    def enter_tolerance(self, space, amount):
+        refuse_when((TOLERANCE_OFF_SCALE, lambda: amount > TOLERANCE_LIMIT))
+        self.tolerance = Tolerance(space, amount)
+
+    def trial(self, spectrum):
+        refuse_when(
+            (NO_CONDITIONS, lambda: self.conditions is None),
+            (NO_STANDARD, lambda: self.standard is None),
+            (NO_TOLERANCE, lambda: self.tolerance is None),
+            (SESSION_FULL, lambda: sum(self.counts.values()) >= TALLY_LIMIT),
+            *spectrum_checks(spectrum),
+        )
+        space, T = self.tolerance
+        own = colour(spectrum, self.conditions)
+        E = difference(space, colour(self.standard, self.conditions), own)
+        verdict = judge(space, E, T)
+        self.counts[verdict] += 1
+        return Trial(verdict, E, own)
+
+    def report(self):
+        return tuple(self.counts[verdict] for verdict in VERDICTS)

@@ -1,0 +1,120 @@
+"""The text format of the program `replay`: a script of calls in, a line of answer for each out.
+
+Rules where the design's text is silent:
+- Bytes are arbitrary. A line ends at byte 10 and at nothing else; the last may lack it. An empty
+  line is passed over.
+- Words are apart by exactly one space; no leading or trailing space, no extra word.
+- A number is one or more of the digits 0 to 9; leading zeros are allowed, signs are not. One too
+  large for its place counts as the largest that fits there: readings have 16 bits; table entries,
+  the tolerance's amount and the light number have 32; a length has 64.
+- A table or spectrum has any length, 0 included, but as many numbers must follow as it says.
+Any other line is unreadable and is no call.
+"""
+
+from collections import namedtuple
+
+from ledger import Ledger, Refused, Trial
+
+READING_BITS, ENTRY_BITS, LENGTH_BITS = 16, 32, 64
+
+# result is what the ledger returned: None, a Colour, a Trial or the tallies.
+Step = namedtuple("Step", "number line answer result")
+
+
+class Unreadable(Exception):
+    pass
+
+
+def number(word, bits):
+    if not word.isdigit():  # of bytes: true for ASCII digits only, and false for an empty word
+        raise Unreadable
+    largest = 2**bits - 1
+    digits = word.lstrip(b"0")
+    return largest if len(digits) > 20 else min(int(digits or b"0"), largest)
+
+
+def table(words, bits):
+    """Takes a length and its numbers off the front of the words; also returns the rest."""
+    if not words:
+        raise Unreadable
+    length = number(words[0], LENGTH_BITS)
+    if length > len(words) - 1:
+        raise Unreadable
+    return [number(word, bits) for word in words[1:1 + length]], words[1 + length:]
+
+
+def whole_table(words, bits):
+    entries, rest = table(words, bits)
+    if rest:
+        raise Unreadable
+    return entries
+
+
+def one_number(words):
+    if len(words) != 1:
+        raise Unreadable
+    return number(words[0], ENTRY_BITS)
+
+
+def four_tables(words):
+    tables = []
+    for _ in range(4):
+        entries, words = table(words, ENTRY_BITS)
+        tables.append(entries)
+    if words:
+        raise Unreadable
+    return tables
+
+
+def call(ledger, line):
+    """Reads a line whole before the ledger sees it, then makes its call."""
+    name, *words = line.split(b" ")
+    if name == b"light":
+        return ledger.open_light(one_number(words))
+    if name == b"open":
+        return ledger.open_tables(*four_tables(words))
+    if name == b"standard":
+        return ledger.enter_standard(whole_table(words, READING_BITS))
+    if name == b"tolerance" and words[:1] in ([b"lab"], [b"luv"]):
+        return ledger.enter_tolerance(words[0].decode(), one_number(words[1:]))
+    if name == b"trial":
+        return ledger.trial(whole_table(words, READING_BITS))
+    if name == b"report" and not words:
+        return ledger.report()
+    raise Unreadable
+
+
+def numbers(colour):
+    return " ".join("none" if value is None else str(value) for value in colour)
+
+
+def answer_text(result):
+    if result is None:
+        return "ok"
+    if isinstance(result, Trial):
+        return f"{result.verdict} {result.difference} {numbers(result.colour)}"
+    if len(result) == 3:
+        return f"tallies {numbers(result)}"
+    return f"colour {numbers(result)}"
+
+
+def answer(ledger, line):
+    """The answer to one line that is not empty, and what the ledger returned."""
+    try:
+        result = call(ledger, line)
+    except Refused as refusal:
+        return f"refused {refusal.cause}", None
+    except Unreadable:
+        return "unreadable", None
+    return answer_text(result), result
+
+
+def steps(script, ledger=None):
+    ledger = ledger or Ledger()
+    for at, line in enumerate(script.split(b"\n"), 1):
+        if line:
+            yield Step(at, line, *answer(ledger, line))
+
+
+def output(script):
+    return "".join(f"{step.answer}\n" for step in steps(script)).encode()
