@@ -152,11 +152,17 @@ def call_list(seed):
     return made
 
 
-def whole_book(chance):
+def rising_numbers(chance, count):
+    """At most 300 apart from each other and from 0."""
     numbers, number = [], 0
-    for _ in range(chance.pick((0, 1, 2, 5, 20, 200))):
+    for _ in range(count):
         number += chance.pick((1, 1, 2, 300))
         numbers.append(number)
+    return numbers
+
+
+def whole_book(chance):
+    numbers = rising_numbers(chance, chance.pick((0, 1, 2, 5, 20, 200)))
     return book.book_bytes([(number, any_spectrum(chance)) for number in numbers])
 
 

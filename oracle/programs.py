@@ -1,16 +1,21 @@
-"""The built programs and the archive, run on given bytes."""
+"""The built programs and the archives, run on given bytes."""
 
 import subprocess
 import sys
 import tempfile
+from array import array
 from pathlib import Path
+
+from book_calls import Write
 
 HERE = Path(__file__).resolve().parent
 ROOT = HERE.parent
 REPLAY = ROOT / "target/bin/replay"
 SHADELIST = ROOT / "target/bin/shadelist"
-ARCHIVE = ROOT / "target/staticlib/libhost.a"
-BUILT_BY = {REPLAY: "rt check", SHADELIST: "rt check", ARCHIVE: "rt staticlib host"}
+HOST = ROOT / "target/staticlib/libhost.a"
+PROBE = ROOT / "target/staticlib/libprobe.a"
+BUILT_BY = {REPLAY: "rt check", SHADELIST: "rt check", HOST: "rt staticlib host",
+            PROBE: "rt staticlib probe"}
 
 
 class Failed(Exception):
@@ -33,6 +38,17 @@ def run(command, data):
     return done.stdout
 
 
+def drive(name, archive, data):
+    """Compiles a driver with an archive and runs it, all cases in one process."""
+    with tempfile.TemporaryDirectory() as folder:
+        driver, source, headers = Path(folder) / name, HERE / f"{name}.c", ROOT / "include"
+        made = subprocess.run(["gcc", "-Wall", "-o", driver, source, "-I", headers, archive],
+                              capture_output=True)
+        if made.returncode != 0:
+            raise Failed(f"{name} did not compile: {made.stderr.decode()}")
+        return run([driver], data)
+
+
 class Built:
     """The programs of the repository."""
 
@@ -43,16 +59,14 @@ class Built:
         return run([SHADELIST], data)
 
     def host(self, cases):
-        """Result and buffer for each (light, spectrum, out), all in one process."""
-        with tempfile.TemporaryDirectory() as folder:
-            driver = Path(folder) / "host_driver"
-            source, headers = HERE / "host_driver.c", ROOT / "include"
-            command = ["gcc", "-Wall", "-o", driver, source, "-I", headers, ARCHIVE]
-            made = subprocess.run(command, capture_output=True)
-            if made.returncode != 0:
-                raise Failed(f"the host driver did not compile: {made.stderr.decode()}")
-            answers = run([driver], b"".join(map(host_bytes, cases)))
-        return host_results(cases, answers)
+        """Result and buffer for each (light, spectrum, out)."""
+        data = b"".join(map(host_bytes, cases))
+        return results(drive("host_driver", HOST, data), 4, [len(out) for _, _, out in cases])
+
+    def book(self, calls):
+        """Result and what is left in the buffer or the places, as bytes, for each call."""
+        data = b"".join(map(call_bytes, calls))
+        return results(drive("book_driver", PROBE, data), 8, [len(call.lent) for call in calls])
 
 
 class StandIn(Built):
@@ -68,21 +82,39 @@ class StandIn(Built):
         from host import shade_colour
         return [shade_colour(*case) for case in cases]
 
+    def book(self, calls):
+        from book_calls import answer
+        return [answer(call) for call in calls]
 
-def native(number):
-    return number.to_bytes(4, sys.byteorder)
+
+def native(*numbers):
+    return b"".join(number.to_bytes(4, sys.byteorder) for number in numbers)
+
+
+def words(numbers):
+    return array("H", numbers).tobytes()
 
 
 def host_bytes(case):
     light, spectrum, out = case
-    return b"".join([native(light), native(len(spectrum)), native(len(out)), spectrum, out])
+    return native(light, len(spectrum), len(out)) + spectrum + out
 
 
-def host_results(cases, answers):
-    results, at = [], 0
-    for _, _, out in cases:
-        buffer = at + 4
-        results.append((int.from_bytes(answers[at:buffer], sys.byteorder),
-                        answers[buffer:buffer + len(out)]))
-        at = buffer + len(out)
-    return results
+def call_bytes(call):
+    if isinstance(call, Write):
+        head = native(0, len(call.numbers), len(call.spectra), len(call.lent))
+        return head + words(call.numbers) + words(call.spectra) + call.lent
+    return native(1, len(call.data), call.number, len(call.lent) // 2) + call.data + call.lent
+
+
+def results(answers, size, lengths):
+    """For each case a result of that size, and as many bytes as were lent."""
+    found, at = [], 0
+    for length in lengths:
+        left = at + size
+        found.append((int.from_bytes(answers[at:left], sys.byteorder),
+                      answers[left:left + length]))
+        at = left + length
+    if at != len(answers):
+        raise Failed(f"a driver answered {len(answers)} bytes, not {at}")
+    return found

@@ -1,0 +1,48 @@
+-- What the calls from C answer, as numbers, and the list of calls behind a run of trials. Assumes nothing.
+use Prim.Native.Nat.{ℕ, zero, suc, _+_, _^_}
+use mathlib.Core.List.{List}
+use Rattle.causes.specs.Causes.{causeNumber}
+use Rattle.cie.specs.declared.Space.the-variants.{Cielab}
+use Rattle.book.specs.declared.Written.{Written}
+use Rattle.book.specs.declared.Written.the-variants as write
+use Rattle.book.specs.declared.Found.{Found}
+use Rattle.book.specs.declared.Found.the-variants as read
+use Rattle.session.specs.declared.Session.{Session}
+use Rattle.session.specs.Call.{Call, open-light, set-standard, set-tolerance, trial, report}
+use Rattle.session.specs.Outcome.{Outcome, accepted, coloured, tried, counted, refused}
+use Rattle.session.specs.Served.{served, freshSession}
+
+-- the total, or 2^32 and the cause's number
+abbrev pub writeCode : Written → ℕ
+writeCode (write.Total n) = n
+writeCode (write.Refused cause) = 2 ^ 32 + causeNumber cause
+
+-- 0, or the cause's number
+abbrev pub readCode : Found → ℕ
+readCode read.Read = 0
+readCode (read.Refused cause) = causeNumber cause
+
+-- the session that a call leaves
+unfoldable pub after : Session → Call → Session
+after s c = served s c .session
+
+-- a fresh session, then the light, the standard and a tolerance in CIELAB
+unfoldable pub sessionFor : ℕ → List ℕ → ℕ → Session
+sessionFor light standard amount = after (after (after freshSession (open-light light)) (set-standard standard)) (set-tolerance Cielab amount)
+
+-- the session after a number of trials of one spectrum
+unfoldable pub afterTrials : Session → List ℕ → ℕ → Session
+afterTrials s readings zero = s
+afterTrials s readings (suc n) = afterTrials (after s (trial readings)) readings n
+
+-- the passes that a report counts
+abbrev pub passedIn : Outcome → ℕ
+passedIn accepted = 0
+passedIn (coloured colour) = 0
+passedIn (tried colour e verdict) = 0
+passedIn (counted tallies) = tallies .passed
+passedIn (refused cause) = 0
+
+-- the passes among a number of trials of one spectrum, as the report after them counts
+unfoldable pub passes : ℕ → List ℕ → List ℕ → ℕ → ℕ → ℕ
+passes light standard readings amount count = passedIn (served (afterTrials (sessionFor light standard amount) readings count) report .outcome)

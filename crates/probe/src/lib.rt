@@ -1,0 +1,96 @@
+// The book's calls and a run of trials, for tests and benchmarks in C: no part of the product.
+ghost use mathlib.Core.Path.{_≡_};
+ghost use lib.ListN.{length};
+ghost use Rattle.cie.specs.Scales.{rows};
+ghost use Rattle.book.specs.Calls.{written, bufferAfterWrite, found, placesAfterRead};
+ghost use Rattle.session.specs.Outcome.{outcomeOf};
+ghost use Rattle.session.specs.Served.{Valid};
+ghost use Rattle.probe.specs.Probe.{writeCode, readCode, passedIn, afterTrials, sessionFor, passes};
+use book::Found;
+use book::Written;
+use cie::Space;
+use session::Answer;
+use session::Session;
+
+// A refused write answers the cause's number above this: no total is as large.
+const REFUSED: u64 = 4294967296;
+
+// Writes a book, and answers its length, or 2^32 and the cause's number.
+#[no_mangle]
+pub extern "C" fn probe_write(numbers: &[u16], spectra: &[u16], buffer: &mut [u8]) -> u64
+    ensures { λ r. ⌜ r ≡ writeCode (written rows (now (numbers .entry)) (now (spectra .entry)) (length (now (buffer .entry)))) ⌝ }
+    ensures { λ _. ⌜ now (buffer .exit) ≡ bufferAfterWrite rows (now (numbers .entry)) (now (spectra .entry)) (now (buffer .entry)) ⌝ }
+{
+    match book::write(numbers, spectra, buffer) {
+        Written::Total(total) => total as u64,
+        Written::Refused(cause) => REFUSED + causes::number(cause) as u64,
+    }
+}
+
+// Reads a shade of a book, and answers 0, or the cause's number.
+#[no_mangle]
+pub extern "C" fn probe_read(book: &[u8], number: u16, places: &mut [u16]) -> u32
+    ensures { λ r. ⌜ r ≡ readCode (found rows (now (book .entry)) number (length (now (places .entry)))) ⌝ }
+    ensures { λ _. ⌜ now (places .exit) ≡ placesAfterRead rows (now (book .entry)) number (now (places .entry)) ⌝ }
+{
+    match book::read(book, number, places) {
+        Found::Read => 0,
+        Found::Refused(cause) => causes::number(cause),
+    }
+}
+
+// A session with a light, a standard and a tolerance in CIELAB, as far as it takes them.
+fn session_for(light: u32, standard: &[u16], amount: u32) -> Session
+    ensures { λ r. ⌜ (r ≡ sessionFor light (now (standard .entry)) amount) × Valid r ⌝ }
+{
+    let opened = Session::fresh().open_light(light);
+    let held = opened.session.set_standard(standard);
+    let ready = held.session.set_tolerance(Space::Cielab, amount);
+    ready.session
+}
+
+// The session after some trials of one spectrum.
+fn after_trials(session: Session, readings: &[u16], count: u32) -> Session
+    requires { ⌜ Valid session ⌝ }
+    ensures { λ r. ⌜ (r ≡ afterTrials session (now (readings .entry)) count) × Valid r ⌝ }
+{
+    let mut current = session;
+    let mut left = count;
+    while left > 0 {
+        let tried = current.trial(readings);
+        current = tried.session;
+        left -= 1;
+    }
+    current
+}
+
+// The passes that a report counts.
+fn passed_in(answer: Answer) -> u32
+    ensures { λ r. ⌜ r ≡ passedIn (outcomeOf answer) ⌝ }
+{
+    match answer {
+        Answer::Accepted => 0,
+        Answer::Coloured(_) => 0,
+        Answer::Tried(_, _, _) => 0,
+        Answer::Counted(tallies) => tallies.passed,
+        Answer::Refused(_) => 0,
+    }
+}
+
+// How many of some trials of one spectrum pass, against a standard under a light, at a tolerance in CIELAB.
+#[no_mangle]
+pub extern "C" fn probe_trials(
+    light: u32,
+    standard: &[u16],
+    trial: &[u16],
+    amount: u32,
+    count: u32,
+) -> u32
+    ensures { λ r. ⌜ r ≡ passes light (now (standard .entry)) (now (trial .entry)) amount count ⌝ }
+{
+    let ready = session_for(light, standard, amount);
+    let last = after_trials(ready, trial, count);
+    let report = last.report();
+    let answer = report.answer;
+    passed_in(answer)
+}
