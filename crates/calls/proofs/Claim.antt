@@ -1,0 +1,24 @@
+-- Demand 3 for a run: its outcomes are the ledger's, which session's whole-list claim says are right. Assumes nothing.
+use mathlib.Core.Path.{subst}
+use mathlib.Core.List.{List, []}
+use Prim.Native.Nat.{ℕ, _*_, _≤_}
+use lib.ListN.{length}
+use Rattle.session.specs.Call.{Call}
+use Rattle.session.specs.Outcome.{Outcome}
+use Rattle.session.specs.Ledger.{emptyLedger, outcomesAt}
+use Rattle.session.specs.Claim.{Each, Right}
+use Rattle.session.proofs.Simulation.{outcomes-same}
+use Rattle.session.proofs.Claim.{every-list}
+use Rattle.calls.specs.Records.{answerWords, callCount}
+use Rattle.calls.specs.Run.{callsIn}
+use Rattle.calls.specs.Claim.{RunRight}
+use Rattle.calls.proofs.Ends.{after-answered}
+
+pub answers-right : (records tables spectra buffer : List ℕ) → callCount records * answerWords ≤ length buffer → RunRight records tables spectra buffer
+answers-right records tables spectra buffer h =
+    let cs : List Call = callsIn records tables spectra in
+    record {
+      outcomes = outcomesAt emptyLedger cs;
+      right = subst (λ (os : List Outcome). Each Right [] emptyLedger cs os) (outcomes-same emptyLedger cs) (every-list .each cs);
+      answered = after-answered records tables spectra buffer h;
+    }

@@ -1,0 +1,6 @@
+pub mod Parts
+pub mod ByKind
+pub mod Laid
+pub mod Turns
+pub mod Ends
+pub mod Claim

@@ -1,0 +1,102 @@
+-- The turns of the two loops that store: what is left, stored from here, gives the whole, so nothing is added at the end of what is stored.
+-- Assumes nothing.
+use mathlib.Core.Path.{_≡_, refl, sym, ap, _∙_}
+use mathlib.Core.List.{List, [], _∷_, _++_}
+use Prim.Native.Nat.{ℕ, zero, suc, _+_, _-_, _*_, _≤_, _<_}
+use native.Mathlib.Omega.{arith}
+use native.Mathlib.Numerals.{add-one}
+use lib.ListN.{length, getD, take, drop, set, length-append, drop-of-length-le}
+use lib.Seq.{sets, drop-cons}
+use Rattle.session.specs.declared.Session.{Session}
+use Rattle.session.specs.declared.Served.{Served}
+use Rattle.session.specs.Call.{Call}
+use Rattle.session.specs.Outcome.{Outcome, outcomeOf}
+use Rattle.session.specs.Ledger.{Ledger, emptyLedger, entered, outcomesAt}
+use Rattle.session.specs.Served.{Valid, freshSession}
+use Rattle.session.specs.Meets.{Meets, sessionOf}
+use Rattle.endian.proofs.Stores.{sets-then, sets-part, sets-front}
+use Rattle.calls.specs.Records.{callWords, answerWords, callAt, callsFrom, callCount, answerOf, answersOf}
+use Rattle.calls.proofs.Laid.{length-answerOf}
+
+-- one turn of the loop that stores words, and its end
+pub words-store : (d words : List ℕ) (i : ℕ) → i < length words → sets (set d i (getD words i 0)) (i + 1) (drop (i + 1) words) ≡ sets d i (drop i words)
+words-store d words i h = rw (drop-cons words i 0 h, add-one)
+
+pub words-stored : (d words : List ℕ) (i : ℕ) → length words ≤ i → sets d i (drop i words) ≡ d
+words-stored d words i h = rw (drop-of-length-le words h)
+
+-- the calls from a place are the one there and those after it
+calls-more : (n m : ℕ) (records tables spectra : List ℕ) (at : ℕ) → n ≡ suc m
+    → callsFrom n records tables spectra at ≡ callAt records tables spectra at ∷ callsFrom m records tables spectra (at + callWords)
+unfolding callsFrom
+calls-more n m records tables spectra at e = rw e
+
+calls-none : (n : ℕ) (records tables spectra : List ℕ) (at : ℕ) → n ≡ 0 → callsFrom n records tables spectra at ≡ []
+unfolding callsFrom
+calls-none n records tables spectra at e = rw e
+
+-- the answers by the ledger l, of so many calls from a place
+module _ (records tables spectra : List ℕ) where
+  abbrev pub answersFrom : Ledger → ℕ → ℕ → List ℕ
+  answersFrom l n at = answersOf (outcomesAt l (callsFrom n records tables spectra at))
+
+  answers-more : (l : Ledger) (n m at : ℕ) → n ≡ suc m
+      → answersFrom l n at ≡ answerOf (entered l (callAt records tables spectra at) .outcome) ++ answersFrom (entered l (callAt records tables spectra at) .ledger) m (at + callWords)
+  unfolding answersOf
+  answers-more l n m at e = ap (λ (cs : List Call). answersOf (outcomesAt l cs)) (calls-more n m records tables spectra at e)
+
+  answers-none : (l : Ledger) (n at : ℕ) → n ≡ 0 → answersFrom l n at ≡ []
+  unfolding answersOf
+  answers-none l n at e = ap (λ (cs : List Call). answersOf (outcomesAt l cs)) (calls-none n records tables spectra at e)
+
+  pub length-answers : (l : Ledger) (n at : ℕ) → length (answersFrom l n at) ≡ answerWords * n
+  length-answers l zero at = ap length (answers-none l zero at refl)
+  length-answers l (suc n) at =
+      let o : Outcome = entered l (callAt records tables spectra at) .outcome in
+      let next : Ledger = entered l (callAt records tables spectra at) .ledger in
+      ap length (answers-more l (suc n) n at refl) ∙ length-append (answerOf o) (answersFrom next n (at + callWords))
+      ∙ omega (arith, length-answerOf o, length-answers next n (at + callWords))
+
+  -- where a run stands: some ledger that the session stands for, whose answers to the calls left, stored from here, give those to the whole list
+  -- stored into the buffer as it was
+  module _ (before : List ℕ) where
+    pub record Along (from to left : ℕ) (buffer : List ℕ) (s : Session) : Type 0 where
+      pub valid : Valid s
+      pub ledger : Ledger
+      pub stands : s ≡ sessionOf ledger
+      pub rest : sets buffer to (answersFrom ledger left from) ≡ sets before 0 (answersFrom emptyLedger (callCount records) 0)
+
+    pub along-start : {s : Session} → s ≡ freshSession → Valid s → Along 0 0 (callCount records) before s
+    along-start e v = record { valid = v; ledger = emptyLedger; stands = e; rest = refl }
+
+    -- k is the length of the part that is lent, ys what the writer leaves there
+    pub along-next : {from to left : ℕ} {buffer : List ℕ} {s : Session} {r : Served} (k : ℕ) (ys : List ℕ) → Along from to left buffer s → 0 < left
+        → Meets s (callAt records tables spectra from) r → to ≤ length buffer → length buffer - to ≡ k
+        → ys ≡ sets (take k (drop to buffer)) 0 (answerOf (outcomeOf (r .answer)))
+        → Along (from + callWords) (to + answerWords) (left - 1) (take to buffer ++ (ys ++ drop k (drop to buffer))) (r .session)
+    along-next {from} {to} {left} {buffer} k ys a h m f g q =
+        let l : Ledger = a .ledger in
+        let c : Call = callAt records tables spectra from in
+        let o : Outcome = entered l c .outcome in
+        let more : List ℕ = answersFrom (entered l c .ledger) (left - 1) (from + callWords) in
+        record {
+          valid = m .valid;
+          ledger = entered l c .ledger;
+          stands = m .next l (a .stands);
+          rest =
+              ap (λ (d : List ℕ). sets (take to buffer ++ (d ++ drop k (drop to buffer))) (to + answerWords) more)
+              (q ∙ ap (λ (x : Outcome). sets (take k (drop to buffer)) 0 (answerOf x)) (m .outcome l (a .stands)))
+              ∙ ap (λ (d : List ℕ). sets d (to + answerWords) more) (sets-part buffer to k (answerOf o) f g)
+              ∙ sets-then buffer to answerWords (answerOf o) more (length-answerOf o)
+              ∙ ap (λ (xs : List ℕ). sets buffer to xs) (sym (answers-more l left (left - 1) from (omega arith)))
+              ∙ a .rest;
+        }
+
+    pub along-end : {from to left : ℕ} {buffer : List ℕ} {s : Session} → Along from to left buffer s → left ≤ 0 → callCount records * answerWords ≤ length before
+        → buffer ≡ answersFrom emptyLedger (callCount records) 0 ++ drop (answerWords * callCount records) before
+    along-end {from} {to} {left} {buffer} a h f =
+        let whole : List ℕ = answersFrom emptyLedger (callCount records) 0 in
+        let n : length whole ≡ answerWords * callCount records = length-answers emptyLedger (callCount records) 0 in
+        ap (λ (xs : List ℕ). sets buffer to xs) (sym (answers-none (a .ledger) left from (omega arith))) ∙ a .rest
+        ∙ sets-front before whole (omega arith)
+        ∙ ap (λ (k : ℕ). whole ++ drop k before) n

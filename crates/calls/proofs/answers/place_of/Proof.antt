@@ -1,0 +1,15 @@
+-- `calls::answers::place_of` meets its contract: it takes the cases of the definition. Assumes nothing.
+use mathlib.Core.Path.{ap, sym}
+use borrow.Author.Needs.{needs}
+use Rattle.calls.specs.Records.{chromaticityWords}
+use Rattle.calls.proofs.answers.place_of.Statement.{statement}
+use Rattle.calls.proofs.answers.place_of.Tie as tie
+
+returns : tie.Need-returns
+returns c = ap chromaticityWords (sym (c .enum-told .given .1))
+
+returns-2 : tie.Need-returns-2
+returns-2 c = ap chromaticityWords (sym (c .before .c .given .1))
+
+pub place-of-spec : {M : Type 1} → statement M
+place-of-spec = tie.close (tie.spec (λ c. search needs) (λ c. search needs) returns returns-2)

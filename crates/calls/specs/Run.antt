@@ -1,0 +1,30 @@
+-- What running a list of calls answers and leaves in the lent buffer. Assumes nothing.
+use mathlib.Core.List.{List, [], _∷_, _++_}
+use Prim.Native.Nat.{ℕ, _*_}
+use lib.Dec.{ltb}
+use lib.ListN.{length, drop}
+use Rattle.causes.specs.declared.Cause.the-variants.{ShortBuffer}
+use Rattle.causes.specs.Checks.{Check, check, firstOf, unless}
+use Rattle.session.specs.Call.{Call}
+use Rattle.session.specs.Ledger.{emptyLedger, outcomesAt}
+use Rattle.calls.specs.declared.Ran.{Ran}
+use Rattle.calls.specs.declared.Ran.the-variants.{Answered, Refused}
+use Rattle.calls.specs.Records.{answerWords, callsFrom, callCount, answersOf}
+
+-- the list of calls that the slices hold
+abbrev pub callsIn : List ℕ → List ℕ → List ℕ → List Call
+callsIn records tables spectra = callsFrom (callCount records) records tables spectra 0
+
+-- 15, short buffer: "shorter than what is to be written"
+abbrev pub runChecks : List ℕ → ℕ → List Check
+runChecks records room = check (ltb room (answerWords * callCount records)) ShortBuffer ∷ []
+
+-- how many calls were answered, or the cause
+unfoldable pub ran : List ℕ → ℕ → Ran
+ran records room = unless (firstOf (runChecks records room)) Refused (Answered (callCount records))
+
+-- the answers of the ledger for the list that the slices hold, and the rest of the buffer untouched
+unfoldable pub answersAfter : List ℕ → List ℕ → List ℕ → List ℕ → List ℕ
+answersAfter records tables spectra buffer =
+    unless (firstOf (runChecks records (length buffer))) (λ _. buffer)
+    (answersOf (outcomesAt emptyLedger (callsIn records tables spectra)) ++ drop (answerWords * callCount records) buffer)

@@ -1,0 +1,110 @@
+// Answers as records of words.
+ghost use mathlib.Core.Path.{_≡_};
+ghost use Prim.Native.Nat.{_≤_};
+ghost use mathlib.Core.List.{[], _∷_, _++_};
+ghost use lib.ListN.{length, replicate};
+ghost use lib.Seq.{sets};
+ghost use Rattle.session.specs.Outcome.{outcomeOf};
+ghost use Rattle.calls.specs.Records.{answerWords, chromaticityWords, differenceWords, verdictWord, colourWords, answerOf};
+use cie::Chromaticity;
+use cie::Colour;
+use cie::Verdict;
+use session::Answer;
+use session::Difference;
+
+pub const ANSWER_WORDS: usize = 17;
+
+// Whether a chromaticity is there, and its x and y.
+struct Place(u32, u32, u32);
+
+fn place_of(c: Chromaticity) -> Place
+    ensures { λ r. ⌜ (r .0 ∷ r .1 ∷ r .2 ∷ []) ≡ chromaticityWords c ⌝ }
+{
+    match c {
+        Chromaticity::None => Place(0, 0, 0),
+        Chromaticity::At(x, y) => Place(1, x, y),
+    }
+}
+
+fn verdict_word(v: Verdict) -> u32
+    ensures { λ r. ⌜ r ≡ verdictWord v ⌝ }
+{
+    match v {
+        Verdict::Pass => 0,
+        Verdict::Fail => 1,
+        Verdict::OnTheLine => 2,
+    }
+}
+
+// The space of a difference, and its amount.
+struct Amount(u32, u32);
+
+fn amount_of(e: Difference) -> Amount
+    ensures { λ r. ⌜ (r .0 ∷ r .1 ∷ []) ≡ differenceWords e ⌝ }
+{
+    match e {
+        Difference::Lab(units) => Amount(0, units.0),
+        Difference::Luv(units) => Amount(1, units.0),
+    }
+}
+
+// The words of an answer that has a colour.
+fn colour_words(kind: u32, c: Colour, amount: Amount, verdict: u32) -> [u32; 17]
+    ensures { λ r. ⌜ r ≡ kind ∷ (colourWords c ++ (amount .0 ∷ amount .1 ∷ verdict ∷ [])) ⌝ }
+{
+    let chromaticity = c.chromaticity;
+    let place = place_of(chromaticity);
+    [
+        kind,
+        c.tristimulus.x,
+        c.tristimulus.y,
+        c.tristimulus.z,
+        place.0,
+        place.1,
+        place.2,
+        c.l,
+        endian::bits(c.a),
+        endian::bits(c.b),
+        endian::bits(c.u),
+        endian::bits(c.v),
+        c.cab,
+        c.cuv,
+        amount.0,
+        amount.1,
+        verdict,
+    ]
+}
+
+// The words of an answer that has at most three numbers.
+fn short_words(kind: u32, a: u32, b: u32, c: u32) -> [u32; 17]
+    ensures { λ r. ⌜ r ≡ kind ∷ a ∷ b ∷ c ∷ replicate 13 0 ⌝ }
+{
+    [kind, a, b, c, 0, 0, 0, 0, 0, 0, 0, 0, 0, 0, 0, 0, 0]
+}
+
+fn words_of(answer: Answer) -> [u32; 17]
+    ensures { λ r. ⌜ r ≡ answerOf (outcomeOf answer) ⌝ }
+{
+    match answer {
+        Answer::Accepted => short_words(0, 0, 0, 0),
+        Answer::Coloured(colour) => colour_words(1, colour, Amount(0, 0), 0),
+        Answer::Tried(colour, e, verdict) => {
+            colour_words(2, colour, amount_of(e), verdict_word(verdict))
+        }
+        Answer::Counted(t) => short_words(3, t.passed, t.failed, t.line),
+        Answer::Refused(cause) => short_words(4, causes::number(cause), 0, 0),
+    }
+}
+
+// Writes an answer's words at the start of the part that is lent.
+pub fn write(part: &mut [u32], answer: Answer)
+    requires { ⌜ answerWords ≤ length (now part) ⌝ }
+    ensures { λ _. ⌜ now (part .exit) ≡ sets (now (part .entry)) 0 (answerOf (outcomeOf answer)) ⌝ }
+{
+    let words = words_of(answer);
+    let mut i = 0;
+    while i < ANSWER_WORDS {
+        part[i] = words[i];
+        i = i + 1;
+    }
+}
