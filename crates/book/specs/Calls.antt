@@ -5,6 +5,7 @@ use mathlib.Core.List.{List, [], _∷_, _++_}
 use lib.ListN.{length, drop}
 use lib.Dec.{ltb, eqb}
 use Rattle.causes.specs.declared.Cause.the-variants.{ShortTable, OverBright, NotABook, NoSuchShade, TooManyShades, OutOfOrder, ShortBuffer}
+use Rattle.causes.specs.Causes.{causeNumber, Numbered, accepted, refused}
 use Rattle.causes.specs.Checks.{Check, check, firstOf, unless}
 use Rattle.cie.specs.Scales.{anyAbove, readingLimit}
 use Rattle.book.specs.Book.{mostShades, total, rising, bookOf, numbersOf, isBook, isIn, shadeOf}
@@ -12,6 +13,15 @@ use Rattle.book.specs.declared.Written.{Written}
 use Rattle.book.specs.declared.Written.the-variants as write
 use Rattle.book.specs.declared.Found.{Found}
 use Rattle.book.specs.declared.Found.the-variants as read
+
+-- what a write and a read answer, in the paper's numbers
+abbrev pub writeAnswer : Written → Numbered
+writeAnswer (write.Total n) = accepted n
+writeAnswer (write.Refused cause) = refused (causeNumber cause)
+
+abbrev pub readAnswer : Found → Numbered
+readAnswer read.Read = accepted 0
+readAnswer (read.Refused cause) = refused (causeNumber cause)
 
 -- "Write (numbers, spectra, buffer): 1, 13, 14, 2, 15."
 unfoldable pub writeChecks : ℕ → List ℕ → List ℕ → ℕ → List Check

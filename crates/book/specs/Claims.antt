@@ -4,24 +4,23 @@ use mathlib.Core.Path.{_≡_}
 use mathlib.Core.Bool.{true}
 use mathlib.Core.List.{List}
 use lib.ListN.{length, getD, take}
+use Rattle.causes.specs.Causes.{accepted}
 use Rattle.endian.specs.Bytes.{Below}
 use Rattle.book.specs.Book.{bookOf, numbersOf, readingsOf, isBook, spectrumOf}
-use Rattle.book.specs.Calls.{written, bufferAfterWrite, found, placesAfterRead}
-use Rattle.book.specs.declared.Written.the-variants.{Total}
-use Rattle.book.specs.declared.Found.the-variants.{Read}
+use Rattle.book.specs.Calls.{writeAnswer, written, bufferAfterWrite, readAnswer, found, placesAfterRead}
 
 -- The bytes are a book and read back as these shades, each number finding its own readings.
 pub record ReadsBack (rows : ℕ) (numbers readings bytes : List ℕ) : Type 0 where
   pub book : isBook rows bytes ≡ true
   pub same-numbers : numbersOf bytes ≡ numbers
   pub same-readings : readingsOf rows bytes ≡ readings
-  pub finds : (i : ℕ) (places : List ℕ) → i < length numbers → length places ≡ rows → found rows bytes (getD numbers i 0) (length places) ≡ Read
+  pub finds : (i : ℕ) (places : List ℕ) → i < length numbers → length places ≡ rows → readAnswer (found rows bytes (getD numbers i 0) (length places)) ≡ accepted 0
   pub own : (i : ℕ) (places : List ℕ) → i < length numbers → length places ≡ rows → placesAfterRead rows bytes (getD numbers i 0) places ≡ spectrumOf rows readings i
 
 -- What an accepted write leaves in the buffer, up to the total that it returns, reads back. (Numbers are of 2 bytes.)
 abbrev pub WrittenReadsBack : ℕ → Type 0
 WrittenReadsBack rows =
-    (numbers readings buffer : List ℕ) (n : ℕ) → Below 65536 numbers → written rows numbers readings (length buffer) ≡ Total n
+    (numbers readings buffer : List ℕ) (n : ℕ) → Below 65536 numbers → writeAnswer (written rows numbers readings (length buffer)) ≡ accepted n
     → ReadsBack rows numbers readings (take n (bufferAfterWrite rows numbers readings buffer))
 
 -- Every book is the book of its shades.

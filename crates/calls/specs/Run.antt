@@ -4,6 +4,7 @@ use Prim.Native.Nat.{ℕ, _*_}
 use lib.Dec.{ltb}
 use lib.ListN.{length, drop}
 use Rattle.causes.specs.declared.Cause.the-variants.{ShortBuffer}
+use Rattle.causes.specs.Causes.{causeNumber, Numbered, accepted, refused}
 use Rattle.causes.specs.Checks.{Check, check, firstOf, unless}
 use Rattle.session.specs.Call.{Call}
 use Rattle.session.specs.Ledger.{emptyLedger, outcomesAt}
@@ -18,6 +19,11 @@ callsIn records tables spectra = callsFrom (callCount records) records tables sp
 -- 15, short buffer: "shorter than what is to be written"
 abbrev pub runChecks : List ℕ → ℕ → List Check
 runChecks records room = check (ltb room (answerWords * callCount records)) ShortBuffer ∷ []
+
+-- what a run answers, in the paper's numbers
+abbrev pub runAnswer : Ran → Numbered
+runAnswer (Answered n) = accepted n
+runAnswer (Refused cause) = refused (causeNumber cause)
 
 -- how many calls were answered, or the cause
 unfoldable pub ran : List ℕ → ℕ → Ran

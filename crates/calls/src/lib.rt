@@ -6,7 +6,7 @@ ghost use lib.ListN.{length};
 ghost use Rattle.session.specs.Served.{Valid};
 ghost use Rattle.session.specs.Meets.{Meets};
 ghost use Rattle.calls.specs.Records.{callWords, partOf, callAt};
-ghost use Rattle.calls.specs.Run.{ran, answersAfter};
+ghost use Rattle.calls.specs.Run.{runAnswer, ran, answersAfter};
 use causes::Cause;
 use cie::Space;
 use session::Served;
@@ -85,7 +85,7 @@ fn call(s: Session, records: &[u32], at: usize, tables: &[u32], spectra: &[u16])
 
 // Runs the calls from a fresh session, and writes the answer of each into the buffer.
 pub fn run(records: &[u32], tables: &[u32], spectra: &[u16], buffer: &mut [u32]) -> Ran
-    ensures { λ r. ⌜ r ≡ ran (now (records .entry)) (length (now (buffer .entry))) ⌝ }
+    ensures { λ r. ⌜ runAnswer r ≡ runAnswer (ran (now (records .entry)) (length (now (buffer .entry)))) ⌝ }
     ensures { λ _. ⌜ now (buffer .exit) ≡ answersAfter (now (records .entry)) (now (tables .entry)) (now (spectra .entry)) (now (buffer .entry)) ⌝ }
 {
     let n = records.len() / CALL_WORDS;

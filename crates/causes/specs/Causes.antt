@@ -20,3 +20,8 @@ causeNumber TooManyShades = 13
 causeNumber OutOfOrder = 14
 causeNumber ShortBuffer = 15
 causeNumber NoSuchLight = 16
+
+-- an answer in the paper's numbers: a count, or the number of a cause
+pub data Numbered : Type 0 where
+  accepted : ℕ → Numbered
+  refused : ℕ → Numbered

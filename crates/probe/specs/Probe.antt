@@ -1,26 +1,23 @@
 -- What the calls from C answer, as numbers, and the list of calls behind a run of trials. Assumes nothing.
 use Prim.Native.Nat.{ℕ, zero, suc, _+_, _^_}
 use mathlib.Core.List.{List}
-use Rattle.causes.specs.Causes.{causeNumber}
+use Rattle.causes.specs.Causes as causes
+use Rattle.causes.specs.Causes.{Numbered}
 use Rattle.cie.specs.declared.Space.the-variants.{Cielab}
-use Rattle.book.specs.declared.Written.{Written}
-use Rattle.book.specs.declared.Written.the-variants as write
-use Rattle.book.specs.declared.Found.{Found}
-use Rattle.book.specs.declared.Found.the-variants as read
 use Rattle.session.specs.declared.Session.{Session}
 use Rattle.session.specs.Call.{Call, open-light, set-standard, set-tolerance, trial, report}
 use Rattle.session.specs.Outcome.{Outcome, accepted, coloured, tried, counted, refused}
 use Rattle.session.specs.Served.{served, freshSession}
 
 -- the total, or 2^32 and the cause's number
-abbrev pub writeCode : Written → ℕ
-writeCode (write.Total n) = n
-writeCode (write.Refused cause) = 2 ^ 32 + causeNumber cause
+abbrev pub writeCode : Numbered → ℕ
+writeCode (causes.accepted n) = n
+writeCode (causes.refused cause) = 2 ^ 32 + cause
 
 -- 0, or the cause's number
-abbrev pub readCode : Found → ℕ
-readCode read.Read = 0
-readCode (read.Refused cause) = causeNumber cause
+abbrev pub readCode : Numbered → ℕ
+readCode (causes.accepted n) = 0
+readCode (causes.refused cause) = cause
 
 -- the session that a call leaves
 unfoldable pub after : Session → Call → Session

@@ -2,7 +2,7 @@
 ghost use mathlib.Core.Path.{_≡_};
 ghost use lib.ListN.{length};
 ghost use Rattle.cie.specs.Scales.{rows};
-ghost use Rattle.book.specs.Calls.{written, bufferAfterWrite, found, placesAfterRead};
+ghost use Rattle.book.specs.Calls.{writeAnswer, written, bufferAfterWrite, readAnswer, found, placesAfterRead};
 ghost use Rattle.session.specs.Outcome.{outcomeOf};
 ghost use Rattle.session.specs.Served.{Valid};
 ghost use Rattle.probe.specs.Probe.{writeCode, readCode, passedIn, afterTrials, sessionFor, passes};
@@ -18,7 +18,7 @@ const REFUSED: u64 = 4294967296;
 // Writes a book, and answers its length, or 2^32 and the cause's number.
 #[no_mangle]
 pub extern "C" fn probe_write(numbers: &[u16], spectra: &[u16], buffer: &mut [u8]) -> u64
-    ensures { λ r. ⌜ r ≡ writeCode (written rows (now (numbers .entry)) (now (spectra .entry)) (length (now (buffer .entry)))) ⌝ }
+    ensures { λ r. ⌜ r ≡ writeCode (writeAnswer (written rows (now (numbers .entry)) (now (spectra .entry)) (length (now (buffer .entry))))) ⌝ }
     ensures { λ _. ⌜ now (buffer .exit) ≡ bufferAfterWrite rows (now (numbers .entry)) (now (spectra .entry)) (now (buffer .entry)) ⌝ }
 {
     match book::write(numbers, spectra, buffer) {
@@ -30,7 +30,7 @@ pub extern "C" fn probe_write(numbers: &[u16], spectra: &[u16], buffer: &mut [u8
 // Reads a shade of a book, and answers 0, or the cause's number.
 #[no_mangle]
 pub extern "C" fn probe_read(book: &[u8], number: u16, places: &mut [u16]) -> u32
-    ensures { λ r. ⌜ r ≡ readCode (found rows (now (book .entry)) number (length (now (places .entry)))) ⌝ }
+    ensures { λ r. ⌜ r ≡ readCode (readAnswer (found rows (now (book .entry)) number (length (now (places .entry))))) ⌝ }
     ensures { λ _. ⌜ now (places .exit) ≡ placesAfterRead rows (now (book .entry)) number (now (places .entry)) ⌝ }
 {
     match book::read(book, number, places) {
