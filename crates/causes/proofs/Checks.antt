@@ -1,7 +1,7 @@
 -- Laws of checks in an order: callers follow their tests one by one, and never open `firstOf` or `unless`. Assumes nothing.
 use mathlib.Core.Path.{_≡_, refl}
-use mathlib.Core.Bool.{Bool, true, false}
-use mathlib.Core.List.{List, [], _∷_}
+use mathlib.Core.Bool.{Bool, true, false, cond}
+use mathlib.Core.List.{List, [], _∷_, _++_}
 use Rattle.causes.specs.declared.Cause.{Cause}
 use Rattle.causes.specs.declared.Checked.{Checked}
 use Rattle.causes.specs.declared.Checked.the-variants.{Clear, Because}
@@ -53,3 +53,24 @@ pub unless-map : {A B : Type 0} (g : A → B) (t : Checked) (f : Cause → A) (a
 unfolding unless
 unless-map g Clear f a = refl
 unless-map g (Because c) f a = refl
+
+-- the cause of some checks is that of a longer list, and where they find nothing the rest decides
+pub first-because : (xs ys : List Check) (c : Cause) → firstOf xs ≡ Because c → firstOf (xs ++ ys) ≡ Because c
+unfolding firstOf
+first-because [] ys c e = cc
+first-because (x ∷ xs) ys c e = go (x .holds) (first-because xs ys c) e
+  where
+    go : (b : Bool) → (firstOf xs ≡ Because c → firstOf (xs ++ ys) ≡ Because c) → cond b (Because (x .cause)) (firstOf xs) ≡ Because c
+        → cond b (Because (x .cause)) (firstOf (xs ++ ys)) ≡ Because c
+    go true next h = h
+    go false next h = next h
+
+pub first-clear : (xs ys : List Check) → firstOf xs ≡ Clear → firstOf (xs ++ ys) ≡ firstOf ys
+unfolding firstOf
+first-clear [] ys e = refl
+first-clear (x ∷ xs) ys e = go (x .holds) (first-clear xs ys) e
+  where
+    go : (b : Bool) → (firstOf xs ≡ Clear → firstOf (xs ++ ys) ≡ firstOf ys) → cond b (Because (x .cause)) (firstOf xs) ≡ Clear
+        → cond b (Because (x .cause)) (firstOf (xs ++ ys)) ≡ firstOf ys
+    go true next h = cc
+    go false next h = next h

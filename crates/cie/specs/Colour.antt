@@ -1,6 +1,7 @@
 -- Document 01, "Colour", sentence by sentence. N stands for X, Y or Z of the sample s and D for that of the white w in the same place.
 -- Every value that the exact difference needs is defined at a scale M; M = 1 is the colour's. Native `/` is "down". Assumes nothing.
 use mathlib.Core.Bool.{Bool, cond}
+use mathlib.Core.List.{List}
 use Prim.Native.Nat.{ℕ, _+_, _*_, _-_, _/_}
 use lib.Dec.{ltb, eqb}
 use lib.IntN.{ℤ, pos, natAbs, _-ℤ_, _*ℤ_}
@@ -14,6 +15,7 @@ use Rattle.cie.specs.declared.Chromaticity.the-variants.{None, At}
 use Rattle.cie.specs.declared.Colour.{Colour}
 use Rattle.cie.specs.declared.LabUnits.{LabUnits}
 use Rattle.cie.specs.declared.LuvUnits.{LuvUnits}
+use Rattle.cie.specs.Sums.{Tables, sumsOf, whiteOf}
 
 -- "Tristimulus: 1,000,000 × N / Yn, down."
 abbrev pub tristimulusScale : ℕ
@@ -148,6 +150,10 @@ colourOf w s =
       cab = chroma (aAt 1 w s) (bAt 1 w s);
       cuv = chroma (uOf w s) (vOf w s);
     }
+
+-- the colour of a spectrum under tables
+abbrev pub colourAt : Tables → List ℕ → Colour
+colourAt t readings = colourOf (whiteOf t) (sumsOf t readings)
 
 abbrev pub squares : ℕ → ℕ → ℕ → ℕ
 squares x y z = square x + square y + square z

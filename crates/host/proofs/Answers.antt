@@ -15,7 +15,7 @@ use Rattle.causes.specs.declared.Checked.{Checked}
 use Rattle.causes.specs.declared.Checked.the-variants.{Clear, Because}
 use Rattle.causes.specs.Causes.{causeNumber}
 use Rattle.causes.specs.Checks.{check, firstOf, unless}
-use Rattle.causes.proofs.Checks.{fires, passes, ends, refuses, clear-head, clear-tail}
+use Rattle.causes.proofs.Checks.{fires, passes, ends, refuses, clear-head, clear-tail, first-because, first-clear}
 use Rattle.cie.specs.declared.Colour.{Colour}
 use Rattle.cie.specs.Sizes.{Sized}
 use Rattle.cie.proofs.RowSums.{at-most-twice}
@@ -27,7 +27,6 @@ use Rattle.endian.proofs.Parts.{length-littleEndian}
 use Rattle.endian.proofs.Stores.{sets-then, sets-front}
 use Rattle.host.specs.declared.Coloured.the-variants.{Whole, Refused}
 use Rattle.host.specs.Host.{readingsOf, answerLength, answerOf, colourChecks, hostChecks, lightColour, colouredOf, answered, bufferAfter}
-use Rattle.host.proofs.Spectra.{first-because, first-clear}
 
 -- stores
 pub pair-put : (d : List ℕ) (at : ℕ) (p q : ℤ) {e g : List ℕ} → e ≡ sets d at (le32 (twos p)) → g ≡ sets e (at + 4) (le32 (twos q))

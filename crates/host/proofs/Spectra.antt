@@ -2,7 +2,7 @@
 -- Assumes nothing.
 use mathlib.Core.Path.{_≡_, refl, sym, ap, _∙_, subst}
 use mathlib.Core.Bool.{Bool, true, false, not, cond, _||_}
-use mathlib.Core.List.{List, [], _∷_, _++_}
+use mathlib.Core.List.{List}
 use Prim.Native.Nat.{ℕ}
 use borrow.Author.Tests.{eq-eqb, ne-eqb}
 use lib.Dec.{eqb}
@@ -10,8 +10,8 @@ use lib.ListN.{length}
 use Rattle.causes.specs.declared.Cause.{Cause}
 use Rattle.causes.specs.declared.Cause.the-variants.{ShortTable, OverBright}
 use Rattle.causes.specs.declared.Checked.the-variants.{Clear, Because}
-use Rattle.causes.specs.Checks.{Check, firstOf}
-use Rattle.causes.proofs.Checks.{fires, passes, ends, refuses, clear-head, clear-tail}
+use Rattle.causes.specs.Checks.{firstOf}
+use Rattle.causes.proofs.Checks.{fires, passes, ends, refuses, clear-head, clear-tail, first-because}
 use Rattle.cie.specs.declared.Sums.{Sums}
 use Rattle.cie.specs.declared.Colour.{Colour}
 use Rattle.cie.specs.Scales.{rows, readingLimit, anyAbove}
@@ -29,27 +29,6 @@ use Rattle.colour.proofs.Preparing.{opened-because, opened-clear}
 use Rattle.colour.proofs.Measuring.{measured-refused, measured-whole, measured-lit, spectrum-of}
 use Rattle.host.specs.declared.Coloured.the-variants.{Whole, Refused}
 use Rattle.host.specs.Host.{spectrumLength, readingsOf, lightColour, colouredOf}
-
--- the cause of some checks is that of a longer list, and where they find nothing the rest decides
-pub first-because : (xs ys : List Check) (c : Cause) → firstOf xs ≡ Because c → firstOf (xs ++ ys) ≡ Because c
-unfolding firstOf
-first-because [] ys c e = cc
-first-because (x ∷ xs) ys c e = go (x .holds) (first-because xs ys c) e
-  where
-    go : (b : Bool) → (firstOf xs ≡ Because c → firstOf (xs ++ ys) ≡ Because c) → cond b (Because (x .cause)) (firstOf xs) ≡ Because c
-        → cond b (Because (x .cause)) (firstOf (xs ++ ys)) ≡ Because c
-    go true next h = h
-    go false next h = next h
-
-pub first-clear : (xs ys : List Check) → firstOf xs ≡ Clear → firstOf (xs ++ ys) ≡ firstOf ys
-unfolding firstOf
-first-clear [] ys e = refl
-first-clear (x ∷ xs) ys e = go (x .holds) (first-clear xs ys) e
-  where
-    go : (b : Bool) → (firstOf xs ≡ Clear → firstOf (xs ++ ys) ≡ firstOf ys) → cond b (Because (x .cause)) (firstOf xs) ≡ Clear
-        → cond b (Because (x .cause)) (firstOf (xs ++ ys)) ≡ firstOf ys
-    go true next h = cc
-    go false next h = next h
 
 -- what measuring 81 readings says: they are over-bright, or their sums are at most twice the white's
 module _ (k : Conditions) (r : List ℕ) where

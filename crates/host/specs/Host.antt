@@ -10,8 +10,7 @@ use Rattle.causes.specs.Causes.{causeNumber}
 use Rattle.causes.specs.Checks.{Check, check, firstOf, unless}
 use Rattle.cie.specs.declared.Colour.{Colour}
 use Rattle.cie.specs.Scales.{rows, readingLimit, anyAbove}
-use Rattle.cie.specs.Sums.{whiteOf, sumsOf}
-use Rattle.cie.specs.Colour.{colourOf}
+use Rattle.cie.specs.Colour.{colourAt}
 use Rattle.colour.specs.Conditions.{lightA, lightD65, lightTables}
 use Rattle.endian.specs.Bytes.{le32, words, twos}
 use Rattle.host.specs.declared.Coloured.{Coloured}
@@ -44,7 +43,7 @@ hostChecks light bytes room = colourChecks light bytes ++ (check (ltb room answe
 
 -- the colour of a spectrum under a light
 unfoldable pub lightColour : ℕ → List ℕ → Colour
-lightColour light readings = colourOf (whiteOf (lightTables light)) (sumsOf (lightTables light) readings)
+lightColour light readings = colourAt (lightTables light) readings
 
 unfoldable pub colouredOf : ℕ → List ℕ → Coloured
 colouredOf light bytes = unless (firstOf (colourChecks light bytes)) Refused (Whole (lightColour light (readingsOf bytes)))

@@ -7,15 +7,14 @@ use Rattle.causes.specs.declared.Cause.the-variants.{NotABook}
 use Rattle.causes.specs.Causes.{causeNumber}
 use Rattle.cie.specs.declared.Colour.{Colour}
 use Rattle.cie.specs.Scales.{rows}
-use Rattle.cie.specs.Sums.{whiteOf, sumsOf}
-use Rattle.cie.specs.Colour.{colourOf}
+use Rattle.cie.specs.Colour.{colourAt}
 use Rattle.colour.specs.Conditions.{lightD65, lightTables}
 use Rattle.book.specs.Book.{isBook, numbersOf, readingsOf, spectrumOf}
 use Rattle.text.specs.Text.{decimal, signed}
 
 -- "opens light 2": the colour of a spectrum under it
 unfoldable pub shadeColour : List ℕ → Colour
-shadeColour readings = colourOf (whiteOf (lightTables lightD65)) (sumsOf (lightTables lightD65) readings)
+shadeColour readings = colourAt (lightTables lightD65) readings
 
 -- a space before a text, and the line feed
 abbrev pub spaced : List ℕ → List ℕ

@@ -11,13 +11,14 @@ use Rattle.cie.specs.declared.Space.the-variants.{Cielab, Cieluv}
 use Rattle.cie.specs.Sums.{Tables, sumsOf, whiteOf}
 use Rattle.cie.specs.Verdict.{margin, verdictOf, difference}
 use Rattle.cie.proofs.Verdicts.{verdicts-right}
+use Rattle.cie.specs.Colour.{colourAt}
 use Rattle.colour.specs.Measure.{spectrumChecks}
 use Rattle.session.specs.declared.Tolerance.{Tolerance}
 use Rattle.session.specs.declared.Tolerance.the-variants.{Unset, Lab, Luv}
 use Rattle.session.specs.declared.Tallies.{Tallies}
 use Rattle.session.specs.Call.{Call, open-tables, open-light, set-standard, set-tolerance, trial, report}
 use Rattle.session.specs.Outcome.{Outcome}
-use Rattle.session.specs.Ledger.{Held, none, held, Ledger, colourAt, Entry, trialAt, entered}
+use Rattle.session.specs.Ledger.{Held, none, held, Ledger, Entry, trialAt, entered}
 use Rattle.session.specs.Claim.{number, verdictsIn, DifferenceTold, TrialTold, CallTold, Right, EveryList}
 use Rattle.session.proofs.Simulation.{ledgerOf, each-call}
 use Rattle.session.proofs.Kept.{Proper, Readable, Kept, kept-empty, kept-next, white-kept, twice-kept}

@@ -8,6 +8,7 @@ use Rattle.cie.specs.declared.Colour.{Colour}
 use Rattle.cie.specs.declared.Verdict.{Verdict}
 use Rattle.cie.specs.declared.Verdict.the-variants.{Pass, Fail, OnTheLine}
 use Rattle.cie.specs.Sums.{Tables}
+use Rattle.cie.specs.Colour.{colourAt}
 use Rattle.session.specs.declared.Difference.{Difference}
 use Rattle.session.specs.declared.Judged.{Judged}
 use Rattle.session.specs.declared.Judged.the-variants.{Without, By}
@@ -15,7 +16,7 @@ use Rattle.session.specs.declared.Tallies.{Tallies}
 use Rattle.session.specs.Call.{Call, open-tables, open-light, set-standard, set-tolerance, trial, report}
 use Rattle.session.specs.Outcome.{Outcome, accepted, coloured, tried, counted, refused}
 use Rattle.session.specs.Rules.{judgedOf, talliedBy}
-use Rattle.session.specs.Ledger.{Held, none, held, Ledger, colourAt, Entry, standardAt, countedAt, trialAt, entered}
+use Rattle.session.specs.Ledger.{Held, none, held, Ledger, Entry, standardAt, countedAt, trialAt, entered}
 use Rattle.session.specs.Claim.{number, verdictsIn}
 
 -- the entry's ledger counts the entry's own verdict with those before

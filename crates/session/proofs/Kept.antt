@@ -8,6 +8,7 @@ use Rattle.causes.specs.Checks.{firstOf}
 use Rattle.causes.proofs.Checks.{clear-head, clear-tail, either}
 use Rattle.cie.specs.declared.Colour.{Colour}
 use Rattle.cie.specs.Sums.{Tables, sumsOf, whiteOf, White, AtMostTwice}
+use Rattle.cie.specs.Colour.{colourAt}
 use Rattle.colour.specs.Conditions.{tableChecks}
 use Rattle.cie.proofs.RowSums.{at-most-twice}
 use Rattle.colour.specs.Measure.{spectrumChecks}
@@ -16,7 +17,7 @@ use Rattle.session.specs.declared.Judged.{Judged}
 use Rattle.session.specs.declared.Judged.the-variants.{Without, By}
 use Rattle.session.specs.Call.{Call, open-tables, open-light, set-standard, set-tolerance, trial, report}
 use Rattle.session.specs.Rules.{judgedOf}
-use Rattle.session.specs.Ledger.{Held, none, held, Ledger, emptyLedger, colourAt, Entry, standardAt, countedAt, trialAt, entered}
+use Rattle.session.specs.Ledger.{Held, none, held, Ledger, emptyLedger, Entry, standardAt, countedAt, trialAt, entered}
 
 abbrev pub Proper : Held Tables → Type 0
 Proper none = Unit

@@ -9,7 +9,7 @@ use Rattle.causes.specs.declared.Checked.the-variants.{Clear, Because}
 use Rattle.causes.specs.Checks.{firstOf, unless}
 use Rattle.cie.specs.declared.Colour.{Colour}
 use Rattle.cie.specs.Sums.{Tables, whiteOf}
-use Rattle.cie.specs.Colour.{colourOf}
+use Rattle.cie.specs.Colour.{colourOf, colourAt}
 use Rattle.colour.specs.Conditions.{conditionsOf}
 use Rattle.colour.specs.Colours.{colourUnder}
 use Rattle.colour.proofs.Dots.{sums-same}
@@ -20,7 +20,7 @@ use Rattle.session.specs.declared.Tallies.{Tallies}
 use Rattle.session.specs.Call.{Call, open-tables, open-light, set-standard, set-tolerance, trial, report}
 use Rattle.session.specs.Outcome.{Outcome}
 use Rattle.session.specs.Rules.{judgedOf}
-use Rattle.session.specs.Ledger.{Held, none, held, Ledger, emptyLedger, colourAt, Entry, countedAt, entered, outcomesAt}
+use Rattle.session.specs.Ledger.{Held, none, held, Ledger, emptyLedger, Entry, countedAt, entered, outcomesAt}
 use Rattle.session.specs.Served.{Reply, served, freshSession, standardBy, triedBy}
 use Rattle.session.specs.Meets.{sessionOf}
 use Rattle.session.specs.Claim.{outcomesFrom, Each, done, more}

@@ -8,8 +8,8 @@ use Rattle.causes.specs.declared.Cause.the-variants.{NoConditions, NoStandard, 
 use Rattle.causes.specs.Causes.{causeNumber}
 use Rattle.causes.specs.Checks.{firstOf, unless}
 use Rattle.cie.specs.declared.Colour.{Colour}
-use Rattle.cie.specs.Sums.{Tables, sumsOf, whiteOf}
-use Rattle.cie.specs.Colour.{colourOf}
+use Rattle.cie.specs.Sums.{Tables}
+use Rattle.cie.specs.Colour.{colourAt}
 use Rattle.colour.specs.Conditions.{tableChecks, lightChecks, lightTables}
 use Rattle.session.specs.declared.Tolerance.{Tolerance}
 use Rattle.session.specs.declared.Tolerance.the-variants.{Unset}
@@ -38,10 +38,6 @@ pub record Ledger : Type 0 where
 -- "it starts with none of the first three and with counts of 0"
 abbrev pub emptyLedger : Ledger
 emptyLedger = record { conditions = none; standard = none; tolerance = Unset; counts = noTallies }
-
--- a spectrum's colour under tables
-abbrev pub colourAt : Tables → List ℕ → Colour
-colourAt t readings = colourOf (whiteOf t) (sumsOf t readings)
 
 -- the ledger after a call, and the call's outcome
 pub record Entry : Type 0 where

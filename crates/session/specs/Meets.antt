@@ -3,6 +3,7 @@ use mathlib.Core.Path.{_≡_}
 use mathlib.Core.List.{List}
 use Prim.Native.Nat.{ℕ}
 use Rattle.cie.specs.Sums.{Tables}
+use Rattle.cie.specs.Colour.{colourAt}
 use Rattle.colour.specs.declared.conditions.Conditions.{Conditions}
 use Rattle.colour.specs.Conditions.{conditionsOf, noConditions}
 use Rattle.session.specs.declared.Standard.{Standard}
@@ -11,7 +12,7 @@ use Rattle.session.specs.declared.Session.{Session}
 use Rattle.session.specs.declared.Served.{Served}
 use Rattle.session.specs.Call.{Call}
 use Rattle.session.specs.Outcome.{outcomeOf}
-use Rattle.session.specs.Ledger.{Held, none, held, isHeld, Ledger, colourAt, entered}
+use Rattle.session.specs.Ledger.{Held, none, held, isHeld, Ledger, entered}
 use Rattle.session.specs.Served.{Valid, shown, served}
 
 -- the session that stands for a ledger
