@@ -48,12 +48,6 @@ unfolding unless
 either Clear Q f a h k = k refl
 either (Because c) Q f a h k = h c
 
--- a function of the outcome is the outcome of the function's values
-pub unless-map : {A B : Type 0} (g : A → B) (t : Checked) (f : Cause → A) (a : A) → g (unless t f a) ≡ unless t (λ c. g (f c)) (g a)
-unfolding unless
-unless-map g Clear f a = refl
-unless-map g (Because c) f a = refl
-
 -- the cause of some checks is that of a longer list, and where they find nothing the rest decides
 pub first-because : (xs ys : List Check) (c : Cause) → firstOf xs ≡ Because c → firstOf (xs ++ ys) ≡ Because c
 unfolding firstOf

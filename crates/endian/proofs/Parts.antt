@@ -97,10 +97,6 @@ module _ (s : List ℕ) (b : Below 256 s) (k at : ℕ) (h : at + k ≤ length s)
   littleEndian-numberAt =
       ap (λ (i : ℕ). littleEndian i (number (part s at k))) (sym (length-part s at k h)) ∙ littleEndian-number (part s at k) (below-part s at k b)
 
-  pub numberAt-below : numberAt k s at < 256 ^ k
-  unfolding numberAt
-  numberAt-below = rw (length-part s at k h) at (number-below (part s at k) (below-part s at k b))
-
 -- the numbers as the code makes them
 pub at16-is : (s : List ℕ) (at : ℕ) → at + 2 ≤ length s → getD s at 0 + 256 * getD s (at + 1) 0 ≡ at16 s at
 unfolding numberAt number
