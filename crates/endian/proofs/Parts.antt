@@ -32,11 +32,6 @@ littleEndian-number (x ∷ l) b =
     let d : (x + 256 * number l) / 256 ≡ number l = omega (arith, b 0) in
     rw (m, d, littleEndian-number l (tail-below l b))
 
-pub number-below : (l : List ℕ) → Below 256 l → number l < 256 ^ length l
-unfolding number
-number-below [] b = omega arith
-number-below (x ∷ l) b = omega (arith, b 0, pow-succ' 256 (length l), number-below l (tail-below l b))
-
 number-append : (p q : List ℕ) → number (p ++ q) ≡ number p + 256 ^ length p * number q
 unfolding number
 number-append [] q = omega arith
