@@ -10,7 +10,7 @@ use lib.ListN.{length, getD, length-append}
 use lib.Dec.{ltb}
 use borrow.Author.Tests.{eq-eqb, ne-eqb, ltb-true}
 use Rattle.cie.specs.Scales.{anyAbove, readingLimit}
-use Rattle.endian.specs.Bytes.{littleEndian, le16, le32, at16, at32, words, bytesOf, Below}
+use Rattle.endian.specs.Bytes.{littleEndian, le16, le32, at16, at32, words, bytesOf, AllBelow}
 use Rattle.endian.proofs.Parts.{tail-below, numberAt-behind, numberAt-front}
 use Rattle.endian.proofs.Words.{words-behind, words-bytesOf}
 use Rattle.book.specs.Book.{magic, headLength, entryLength, bodyLength, mostShades, bodiesAt, total, rising, startsWith, entryOf, contentsOf, bookOf, entryOk, entriesOk, countOf, numbersOf, readingsIn, readingsOf, isBook, indexOf}
@@ -70,7 +70,7 @@ module _ (rows k o : ℕ) (r : List ℕ) (hk : k < 65536) where
 
 -- the entries read back
 module _ (rows : ℕ) (fits : bodyLength rows < 65536) (q : List ℕ) where
-  numbers-back : (ns : List ℕ) (o : ℕ) → Below 65536 ns → words (contentsOf rows o ns ++ q) 0 entryLength (length ns) ≡ ns
+  numbers-back : (ns : List ℕ) (o : ℕ) → AllBelow 65536 ns → words (contentsOf rows o ns ++ q) 0 entryLength (length ns) ≡ ns
   unfolding contentsOf words
   numbers-back [] o b = refl
   numbers-back (k ∷ ns) o b =
@@ -82,7 +82,7 @@ module _ (rows : ℕ) (fits : bodyLength rows < 65536) (q : List ℕ) where
         numbers-back ns (o + bodyLength rows) (tail-below ns b),
       )
 
-  entries-back : (ns : List ℕ) (before o : ℕ) → Below 65536 ns → o + bodyLength rows * length ns < 2 ^ 32
+  entries-back : (ns : List ℕ) (before o : ℕ) → AllBelow 65536 ns → o + bodyLength rows * length ns < 2 ^ 32
       → entriesOk rows (contentsOf rows o ns ++ q) 0 before o (length ns) ≡ rising before ns
   unfolding contentsOf entriesOk rising
   entries-back [] before o b h = refl
@@ -96,7 +96,7 @@ module _ (rows : ℕ) (fits : bodyLength rows < 65536) (q : List ℕ) where
         entries-back ns k (o + bodyLength rows) (tail-below ns b) (omega arith),
       )
 
-words-after : (f c xs : List ℕ) (at : ℕ) → at ≡ length (f ++ c) → Below 65536 xs → words (f ++ (c ++ bytesOf xs)) at 2 (length xs) ≡ xs
+words-after : (f c xs : List ℕ) (at : ℕ) → at ≡ length (f ++ c) → AllBelow 65536 xs → words (f ++ (c ++ bytesOf xs)) at 2 (length xs) ≡ xs
 words-after f c xs at e b =
     ap (λ (i : ℕ). words (f ++ (c ++ bytesOf xs)) i 2 (length xs)) (e ∙ sym (add-zero (length (f ++ c))))
     ∙ ap (λ (l : List ℕ). words l (length (f ++ c) + 0) 2 (length xs)) (sym (append-assoc f c (bytesOf xs)) ∙ ap (λ (l : List ℕ). f ++ c ++ l) (sym (append-nil (bytesOf xs))))
@@ -116,19 +116,19 @@ module _ (rows : ℕ) (ns rs : List ℕ) (few : length ns ≤ mostShades) where
       let body : List ℕ = contentsOf rows (bodiesAt (length ns)) ns ++ bytesOf rs in
       numberAt-behind 2 magic (le16 (length ns) ++ body) 0 ∙ numberAt-front 2 (length ns) body (omega arith)
 
-  pub numbers-of : Below 65536 ns → bodyLength rows < 65536 → numbersOf (bookOf rows ns rs) ≡ ns
+  pub numbers-of : AllBelow 65536 ns → bodyLength rows < 65536 → numbersOf (bookOf rows ns rs) ≡ ns
   unfolding numbersOf bookOf littleEndian front contents
   numbers-of b fits =
       ap (words (bookOf rows ns rs) headLength entryLength) count-back
       ∙ words-behind front (contents ++ bytesOf rs) (length ns) 0 entryLength ∙ numbers-back rows fits (bytesOf rs) ns (bodiesAt (length ns)) b
 
-  pub readings-of : Below 65536 rs → length rs ≡ rows * length ns → readingsOf rows (bookOf rows ns rs) ≡ rs
+  pub readings-of : AllBelow 65536 rs → length rs ≡ rows * length ns → readingsOf rows (bookOf rows ns rs) ≡ rs
   unfolding readingsIn bookOf littleEndian front contents
   readings-of b long =
       ap (readingsIn rows (bookOf rows ns rs)) count-back ∙ ap (words (bookOf rows ns rs) (bodiesAt (length ns)) 2) (sym long)
       ∙ words-after front contents rs (bodiesAt (length ns)) (omega (arith, length-append front contents, length-contentsOf rows (bodiesAt (length ns)) ns)) b
 
-  entries-of : Below 65536 ns → bodyLength rows < 65536 → entriesOk rows (bookOf rows ns rs) headLength 0 (bodiesAt (length ns)) (length ns) ≡ rising 0 ns
+  entries-of : AllBelow 65536 ns → bodyLength rows < 65536 → entriesOk rows (bookOf rows ns rs) headLength 0 (bodiesAt (length ns)) (length ns) ≡ rising 0 ns
   unfolding bookOf littleEndian front contents
   entries-of b fits =
       let far : bodyLength rows * length ns ≤ 65536 * mostShades = mul-le-mul {n₂ = 65536} {m₂ = mostShades} (omega arith) few in
@@ -138,7 +138,7 @@ module _ (rows : ℕ) (ns rs : List ℕ) (few : length ns ≤ mostShades) where
   unfolding startsWith bookOf
   begins = refl
 
-  pub is-book : Below 65536 ns → bodyLength rows < 65536 → Below 65536 rs → length rs ≡ rows * length ns → rising 0 ns ≡ true → anyAbove readingLimit rs ≡ false
+  pub is-book : AllBelow 65536 ns → bodyLength rows < 65536 → AllBelow 65536 rs → length rs ≡ rows * length ns → rising 0 ns ≡ true → anyAbove readingLimit rs ≡ false
       → isBook rows (bookOf rows ns rs) ≡ true
   is-book b fits br long rises fair =
       let whole : length (bookOf rows ns rs) ≡ total rows (length ns) = omega (arith, length-bookOf rows ns rs, ap (λ (x : ℕ). 2 * x) long) in

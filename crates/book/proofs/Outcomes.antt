@@ -1,7 +1,7 @@
 -- What the calls answer and leave, by the tests that led there: the first check that holds decides both. Assumes nothing.
 use mathlib.Core.Path.{_≡_, ap, _∙_}
 use mathlib.Core.Bool.{true, false}
-use Prim.Native.Nat.{ℕ, _+_, _*_, _≤_, _<_}
+use Prim.Native.Nat.{ℕ, _*_, _≤_, _<_}
 use native.Mathlib.Omega.{arith}
 use mathlib.Core.List.{List, _++_}
 use lib.ListN.{length, drop}
@@ -11,13 +11,12 @@ use borrow.Author.Tests.{lt-ltb, le-ltb, eq-eqb, ne-eqb}
 use Rattle.causes.specs.declared.Cause.{Cause}
 use Rattle.causes.specs.declared.Cause.the-variants.{ShortTable, OverBright, NotABook, NoSuchShade, TooManyShades, OutOfOrder, ShortBuffer}
 use Rattle.causes.specs.declared.Checked.the-variants.{Clear, Because}
+use Rattle.causes.specs.Causes.{causeNumber, accepted, refused}
 use Rattle.causes.specs.Checks.{firstOf, unless}
 use Rattle.cie.specs.Scales.{anyAbove, readingLimit}
 use Rattle.endian.proofs.Stores.{sets-front}
 use Rattle.book.specs.Book.{mostShades, total, rising, bookOf, numbersOf, countOf, readingsOf, isBook, indexOf, spectrumOf, shadeOf}
-use Rattle.book.specs.Calls.{writeAnswer, writeChecks, written, bufferAfterWrite, readAnswer, readChecks, found, placesAfterRead}
-use Rattle.book.specs.declared.Written.the-variants as write
-use Rattle.book.specs.declared.Found.the-variants as read
+use Rattle.book.specs.Calls.{writeChecks, written, bufferAfterWrite, readChecks, found, placesAfterRead}
 use Rattle.book.proofs.Stored.{length-bookOf}
 use Rattle.book.proofs.Tests.{in-list, not-in-list}
 use Rattle.book.proofs.Rules.{length-numbersOf}
@@ -55,13 +54,13 @@ module _ (rows : ℕ) (ns rs : List ℕ) (room : ℕ) where
 -- a write that is refused, and one that is accepted
 module _ (rows : ℕ) (ns rs b : List ℕ) where
   pub write-refused : (c : Cause) → firstOf (writeChecks rows ns rs (length b)) ≡ Because c
-      → (writeAnswer (write.Refused c) ≡ writeAnswer (written rows ns rs (length b))) × (b ≡ bufferAfterWrite rows ns rs b)
+      → (refused (causeNumber c) ≡ written rows ns rs (length b)) × (b ≡ bufferAfterWrite rows ns rs b)
   unfolding written bufferAfterWrite unless
   write-refused c e = (rw e, rw e)
 
   pub write-accepted : firstOf (writeChecks rows ns rs (length b)) ≡ Clear → length rs ≡ rows * length ns → total rows (length ns) ≤ length b
       → {after : List ℕ} → after ≡ sets b 0 (bookOf rows ns rs)
-      → (writeAnswer (write.Total (total rows (length ns))) ≡ writeAnswer (written rows ns rs (length b))) × (after ≡ bufferAfterWrite rows ns rs b)
+      → (accepted (total rows (length ns)) ≡ written rows ns rs (length b)) × (after ≡ bufferAfterWrite rows ns rs b)
   unfolding written bufferAfterWrite unless
   write-accepted e long room {after} stored =
       let n : length (bookOf rows ns rs) ≡ total rows (length ns) = omega (arith, length-bookOf rows ns rs, ap (λ (x : ℕ). 2 * x) long) in
@@ -90,12 +89,12 @@ module _ (rows : ℕ) (s : List ℕ) (k places : ℕ) where
 -- a read that is refused, and one that is accepted
 module _ (rows : ℕ) (s : List ℕ) (k : ℕ) (d : List ℕ) where
   pub read-refused : (c : Cause) → firstOf (readChecks rows s k (length d)) ≡ Because c
-      → (readAnswer (read.Refused c) ≡ readAnswer (found rows s k (length d))) × (d ≡ placesAfterRead rows s k d)
+      → (refused (causeNumber c) ≡ found rows s k (length d)) × (d ≡ placesAfterRead rows s k d)
   unfolding found placesAfterRead unless
   read-refused c e = (rw e, rw e)
 
   pub read-accepted : firstOf (readChecks rows s k (length d)) ≡ Clear → {i : ℕ} → i ≡ indexOf k (numbersOf s)
       → {after : List ℕ} → after ≡ spectrumOf rows (readingsOf rows s) i
-      → (readAnswer read.Read ≡ readAnswer (found rows s k (length d))) × (after ≡ placesAfterRead rows s k d)
+      → (accepted 0 ≡ found rows s k (length d)) × (after ≡ placesAfterRead rows s k d)
   unfolding found placesAfterRead unless shadeOf
   read-accepted e p filled = (rw e, rw e (filled ∙ ap (spectrumOf rows (readingsOf rows s)) p))

@@ -1,6 +1,6 @@
 -- The claims of specs/Claims.antt, at any number of rows whose body length 2 bytes hold: an accepted write has passed the checks, and so its
 -- book keeps every rule. Assumes nothing.
-use mathlib.Core.Path.{_≡_, refl, sym, ap, _∙_}
+use mathlib.Core.Path.{_≡_, sym, ap, _∙_}
 use mathlib.Core.Bool.{true, false, not}
 use Prim.Native.Nat.{ℕ, _*_, _≤_, _<_}
 use native.Mathlib.Omega.{arith}
@@ -10,17 +10,15 @@ use lib.Seq.{take-at}
 use lib.Dec.{eqb, ltb}
 use borrow.Author.Tests.{eqb-true, ltb-false, not-false}
 use Rattle.causes.specs.Causes.{accepted}
-use Rattle.causes.specs.declared.Checked.{Checked}
-use Rattle.causes.specs.declared.Checked.the-variants.{Clear, Because}
-use Rattle.causes.specs.Checks.{firstOf, unless}
-use Rattle.causes.proofs.Checks.{clear-head, clear-tail, accepts}
+use Rattle.causes.specs.declared.Checked.the-variants.{Clear}
+use Rattle.causes.specs.Checks.{firstOf}
+use Rattle.causes.proofs.Checks.{clear-head, clear-tail, accepts, numbered-accepted}
 use Rattle.cie.specs.Scales.{rows as spectrumRows, anyAbove, readingLimit}
 use Rattle.cie.proofs.Scales.{below}
-use Rattle.endian.specs.Bytes.{Below}
+use Rattle.endian.specs.Bytes.{AllBelow}
 use Rattle.book.specs.Book.{bodyLength, mostShades, total, rising, bookOf, numbersOf, readingsOf, isBook, indexOf, spectrumOf}
-use Rattle.book.specs.Calls.{writeAnswer, writeChecks, written, bufferAfterWrite, readAnswer, found, placesAfterRead}
+use Rattle.book.specs.Calls.{writeChecks, written, bufferAfterWrite, found, placesAfterRead}
 use Rattle.book.specs.Claims.{ReadsBack, WrittenReadsBack, BookOfItsShades, SameShadesSameBook}
-use Rattle.book.specs.declared.Written.the-variants.{Total, Refused}
 use Rattle.book.proofs.Stored.{length-bookOf}
 use Rattle.book.proofs.Outcomes.{reads, read-accepted}
 use Rattle.book.proofs.Back.{count-back, numbers-of, readings-of, is-book, own-place}
@@ -48,8 +46,8 @@ shades rows ns rs room e =
     }
 
 -- the book of shades that pass the checks
-module _ (rows : ℕ) (fits : bodyLength rows < 65536) (ns rs : List ℕ) (bn : Below 65536 ns) (h : Shades rows ns rs) where
-  br : Below 65536 rs
+module _ (rows : ℕ) (fits : bodyLength rows < 65536) (ns rs : List ℕ) (bn : AllBelow 65536 ns) (h : Shades rows ns rs) where
+  br : AllBelow 65536 rs
   br i = omega (arith, below readingLimit rs i (h .fair))
 
   reads-back : ReadsBack rows ns rs (bookOf rows ns rs)
@@ -59,7 +57,7 @@ module _ (rows : ℕ) (fits : bodyLength rows < 65536) (ns rs : List ℕ) (bn : 
       let numbers : numbersOf s ≡ ns = numbers-of rows ns rs (h .few) bn fits in
       let readings : readingsOf rows s ≡ rs = readings-of rows ns rs (h .few) br (h .long) in
       let read : (i : ℕ) (places : List ℕ) → i < length ns → length places ≡ rows
-      → (accepted 0 ≡ readAnswer (found rows s (getD ns i 0) (length places))) × (spectrumOf rows rs i ≡ placesAfterRead rows s (getD ns i 0) places) =
+      → (accepted 0 ≡ found rows s (getD ns i 0) (length places)) × (spectrumOf rows rs i ≡ placesAfterRead rows s (getD ns i 0) places) =
       λ i places k e.
       let k₀ = getD ns i 0 in
       let place : i ≡ indexOf k₀ (numbersOf s) = sym (ap (indexOf k₀) numbers ∙ own-place 0 ns i (h .rises) k) in
@@ -72,16 +70,10 @@ module _ (rows : ℕ) (fits : bodyLength rows < 65536) (ns rs : List ℕ) (bn : 
         own = λ i places k e. sym (read i places k e .1);
       }
 
--- an answer with a total, after the checks
-total-of : (t : Checked) (m n : ℕ) → writeAnswer (unless t Refused (Total m)) ≡ accepted n → (t ≡ Clear) × (m ≡ n)
-unfolding unless
-total-of Clear m n e = (refl, cc)
-total-of (Because c) m n e = (cc, cc)
-
 pub written-reads-back : (rows : ℕ) → bodyLength rows < 65536 → WrittenReadsBack rows
 unfolding written bufferAfterWrite
 written-reads-back rows fits ns rs b n bn e =
-    let a = total-of (firstOf (writeChecks rows ns rs (length b))) (total rows (length ns)) n e in
+    let a = numbered-accepted (firstOf (writeChecks rows ns rs (length b))) (total rows (length ns)) n e in
     let h = shades rows ns rs (length b) (a .0) in
     let long : length (bookOf rows ns rs) ≡ n = omega (arith, length-bookOf rows ns rs, ap (λ (x : ℕ). 2 * x) (h .long), a .1) in
     let whole : take n (bookOf rows ns rs ++ drop (total rows (length ns)) b) ≡ bookOf rows ns rs = take-at (bookOf rows ns rs) (drop (total rows (length ns)) b) n long in

@@ -7,7 +7,7 @@ use mathlib.Core.List.{List, [], _∷_, _++_}
 use lib.ListN.{length, take}
 use lib.Dec.{ltb, eqb}
 use borrow.Author.Tests.{eqb-true}
-use Rattle.endian.specs.Bytes.{le16, le32, at16, at32, part, words, bytesOf, Below}
+use Rattle.endian.specs.Bytes.{le16, le32, at16, at32, part, words, bytesOf, AllBelow}
 use Rattle.endian.proofs.Parts.{littleEndian-numberAt, part-join, part-none, part-whole}
 use Rattle.endian.proofs.Words.{length-words, bytesOf-words}
 use Rattle.book.specs.Book.{magic, countPlace, headLength, entryLength, bodyLength, bodiesAt, startsWith, entryOf, contentsOf, bookOf, entryOk, entriesOk, countOf, numbersOf, readingsIn, readingsOf, isBook}
@@ -20,7 +20,7 @@ starts-front (x ∷ p) [] h = cc
 starts-front (x ∷ p) (y ∷ s) h =
     rw (eqb-true y x (and-left (eqb y x) (startsWith p s) h), starts-front p s (and-right (eqb y x) (startsWith p s) h))
 
-module _ (rows : ℕ) (s : List ℕ) (b : Below 256 s) where
+module _ (rows : ℕ) (s : List ℕ) (b : AllBelow 256 s) where
   entry-part : (at before o : ℕ) → at + entryLength ≤ length s → entryOk rows s at before o ≡ true → entryOf rows (at16 s at) o ≡ part s at entryLength
   unfolding entryOf entryOk
   entry-part at before o h t =

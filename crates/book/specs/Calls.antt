@@ -6,7 +6,7 @@ use lib.ListN.{length, drop}
 use lib.Dec.{ltb, eqb}
 use Rattle.causes.specs.declared.Cause.the-variants.{ShortTable, OverBright, NotABook, NoSuchShade, TooManyShades, OutOfOrder, ShortBuffer}
 use Rattle.causes.specs.Causes.{causeNumber, Numbered, accepted, refused}
-use Rattle.causes.specs.Checks.{Check, check, firstOf, unless}
+use Rattle.causes.specs.Checks.{Check, check, firstOf, unless, numbered}
 use Rattle.cie.specs.Scales.{anyAbove, readingLimit}
 use Rattle.book.specs.Book.{mostShades, total, rising, bookOf, numbersOf, isBook, isIn, shadeOf}
 use Rattle.book.specs.declared.Written.{Written}
@@ -15,11 +15,11 @@ use Rattle.book.specs.declared.Found.{Found}
 use Rattle.book.specs.declared.Found.the-variants as read
 
 -- what a write and a read answer, in the paper's numbers
-abbrev pub writeAnswer : Written → Numbered
+abbrev pub writeAnswer : Written → Numbered ℕ
 writeAnswer (write.Total n) = accepted n
 writeAnswer (write.Refused cause) = refused (causeNumber cause)
 
-abbrev pub readAnswer : Found → Numbered
+abbrev pub readAnswer : Found → Numbered ℕ
 readAnswer read.Read = accepted 0
 readAnswer (read.Refused cause) = refused (causeNumber cause)
 
@@ -34,9 +34,8 @@ writeChecks rows numbers readings room =
     ∷ []
 
 -- "An accepted write returns the total."
-unfoldable pub written : ℕ → List ℕ → List ℕ → ℕ → Written
-written rows numbers readings room =
-    unless (firstOf (writeChecks rows numbers readings room)) write.Refused (write.Total (total rows (length numbers)))
+unfoldable pub written : ℕ → List ℕ → List ℕ → ℕ → Numbered ℕ
+written rows numbers readings room = numbered (firstOf (writeChecks rows numbers readings room)) (total rows (length numbers))
 
 -- "bytes past the end are untouched"
 unfoldable pub bufferAfterWrite : ℕ → List ℕ → List ℕ → List ℕ → List ℕ
@@ -52,8 +51,8 @@ readChecks rows book number places =
     ∷ check (not (isIn number (numbersOf book))) NoSuchShade
     ∷ []
 
-unfoldable pub found : ℕ → List ℕ → ℕ → ℕ → Found
-found rows book number places = unless (firstOf (readChecks rows book number places)) read.Refused read.Read
+unfoldable pub found : ℕ → List ℕ → ℕ → ℕ → Numbered ℕ
+found rows book number places = numbered (firstOf (readChecks rows book number places)) 0
 
 unfoldable pub placesAfterRead : ℕ → List ℕ → ℕ → List ℕ → List ℕ
 placesAfterRead rows book number places =

@@ -28,7 +28,7 @@ pub enum Found {
 
 // Writes the book of some shades into the buffer: their numbers, and 81 readings for each, one shade after the other.
 pub fn write(numbers: &[u16], spectra: &[u16], buffer: &mut [u8]) -> Written
-    ensures { λ r. ⌜ writeAnswer r ≡ writeAnswer (written rows (now (numbers .entry)) (now (spectra .entry)) (length (now (buffer .entry)))) ⌝ }
+    ensures { λ r. ⌜ writeAnswer r ≡ written rows (now (numbers .entry)) (now (spectra .entry)) (length (now (buffer .entry))) ⌝ }
     ensures { λ _. ⌜ now (buffer .exit) ≡ bufferAfterWrite rows (now (numbers .entry)) (now (spectra .entry)) (now (buffer .entry)) ⌝ }
 {
     let n = numbers.len();
@@ -54,7 +54,7 @@ pub fn write(numbers: &[u16], spectra: &[u16], buffer: &mut [u8]) -> Written
 
 // Reads the shade of a number into 81 places.
 pub fn read(book: &[u8], number: u16, places: &mut [u16]) -> Found
-    ensures { λ r. ⌜ readAnswer r ≡ readAnswer (found rows (now (book .entry)) number (length (now (places .entry)))) ⌝ }
+    ensures { λ r. ⌜ readAnswer r ≡ found rows (now (book .entry)) number (length (now (places .entry))) ⌝ }
     ensures { λ _. ⌜ now (places .exit) ≡ placesAfterRead rows (now (book .entry)) number (now (places .entry)) ⌝ }
 {
     if places.len() != ROWS {

@@ -9,10 +9,10 @@ use borrow.Author.Tests.{lt-ltb, le-ltb}
 use lib.Dec.{ltb}
 use lib.ListN.{length, drop}
 use Rattle.causes.specs.declared.Cause.the-variants.{ShortBuffer}
+use Rattle.causes.specs.Causes.{causeNumber, accepted, refused}
 use Rattle.causes.proofs.Checks.{fires, passes, ends}
 use Rattle.session.specs.Ledger.{emptyLedger, outcomesAt}
-use Rattle.calls.specs.declared.Ran.the-variants.{Answered, Refused}
-use Rattle.calls.specs.Records.{answerWords, callCount, answersOf}
+use Rattle.calls.specs.Records.{answerWords, callCount, answerRecords}
 use Rattle.calls.specs.Run.{callsIn, ran, answersAfter}
 
 module _ (records : List ℕ) (room : ℕ) where
@@ -22,11 +22,11 @@ module _ (records : List ℕ) (room : ℕ) where
   wide : callCount records * answerWords ≤ room → ltb room (answerWords * callCount records) ≡ false
   wide h = le-ltb room (answerWords * callCount records) (omega arith)
 
-  pub ran-short : room < callCount records * answerWords → ran records room ≡ Refused ShortBuffer
+  pub ran-short : room < callCount records * answerWords → ran records room ≡ refused (causeNumber ShortBuffer)
   unfolding ran
   ran-short h = fires _ _ _ _ _ (short h)
 
-  pub ran-answered : callCount records * answerWords ≤ room → ran records room ≡ Answered (callCount records)
+  pub ran-answered : callCount records * answerWords ≤ room → ran records room ≡ accepted (callCount records)
   unfolding ran
   ran-answered h = passes _ _ _ _ _ (wide h) ∙ ends _ _
 
@@ -36,6 +36,6 @@ module _ (records tables spectra buffer : List ℕ) where
   after-short h = fires _ _ _ _ _ (short records (length buffer) h)
 
   pub after-answered : callCount records * answerWords ≤ length buffer
-      → answersAfter records tables spectra buffer ≡ answersOf (outcomesAt emptyLedger (callsIn records tables spectra)) ++ drop (answerWords * callCount records) buffer
+      → answersAfter records tables spectra buffer ≡ answerRecords (outcomesAt emptyLedger (callsIn records tables spectra)) ++ drop (answerWords * callCount records) buffer
   unfolding answersAfter
   after-answered h = passes _ _ _ _ _ (wide records (length buffer) h) ∙ ends _ _

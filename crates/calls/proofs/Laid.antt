@@ -12,28 +12,24 @@ use Rattle.cie.specs.declared.Verdict.{Verdict}
 use Rattle.session.specs.declared.Answer.{Answer}
 use Rattle.session.specs.declared.Answer.the-variants.{Accepted, Coloured, Tried, Counted, Refused}
 use Rattle.session.specs.declared.Difference.{Difference}
-use Rattle.session.specs.declared.Difference.the-variants.{Lab, Luv}
 use Rattle.session.specs.declared.Tallies.{Tallies}
-use Rattle.session.specs.Outcome.{Outcome, accepted, coloured, tried, counted, refused, outcomeOf}
+use Rattle.session.specs.Outcome.{Outcome, accepted, coloured, tried, counted, refused}
+use Rattle.session.specs.Served.{amountOf, outcomeOf}
 use Rattle.endian.specs.Bytes.{twos}
-use Rattle.calls.specs.Records.{answerWords, chromaticityWords, colourWords, differenceWords, verdictWord, answerOf}
+use Rattle.calls.specs.Records.{answerWords, chromaticityWords, colourWords, spaceWord, verdictWord, answerRecord}
 
 -- how long an answer is
 length-chromaticity : (c : Chromaticity) → length (chromaticityWords c) ≡ 3
 length-chromaticity None = refl
 length-chromaticity (At x y) = refl
 
-length-difference : (e : Difference) → length (differenceWords e) ≡ 2
-length-difference (Lab e) = refl
-length-difference (Luv e) = refl
-
-pub length-answerOf : (o : Outcome) → length (answerOf o) ≡ answerWords
-unfolding answerOf
-length-answerOf accepted = refl
-length-answerOf (coloured colour) = simp (length-append, length-chromaticity)
-length-answerOf (tried colour e verdict) = simp (length-append, length-chromaticity, length-difference)
-length-answerOf (counted t) = refl
-length-answerOf (refused cause) = refl
+pub length-answer : (o : Outcome) → length (answerRecord o) ≡ answerWords
+unfolding answerRecord
+length-answer accepted = refl
+length-answer (coloured colour) = simp (length-append, length-chromaticity)
+length-answer (tried colour e verdict) = simp (length-append, length-chromaticity)
+length-answer (counted n) = refl
+length-answer (refused cause) = refl
 
 -- the words of a colour
 pub colour-laid : (kind amount₀ amount₁ verdict : ℕ) (c : Colour) {p q r a b u v : ℕ} → (p ∷ q ∷ r ∷ []) ≡ chromaticityWords (c .chromaticity)
@@ -45,23 +41,23 @@ colour-laid kind amount₀ amount₁ verdict c ep ea eb eu ev =
 
 -- the words that the code makes of each answer
 module _ {answer : Answer} {r : List ℕ} where
-  pub laid-accepted : answer ≡ Accepted → r ≡ 0 ∷ 0 ∷ 0 ∷ 0 ∷ replicate 13 0 → r ≡ answerOf (outcomeOf answer)
-  unfolding answerOf
+  pub laid-accepted : answer ≡ Accepted → r ≡ 0 ∷ 0 ∷ 0 ∷ 0 ∷ replicate 13 0 → r ≡ answerRecord (outcomeOf answer)
+  unfolding answerRecord
   laid-accepted e q = rw e q
 
-  pub laid-coloured : {colour : Colour} → answer ≡ Coloured colour → r ≡ 1 ∷ (colourWords colour ++ (0 ∷ 0 ∷ 0 ∷ [])) → r ≡ answerOf (outcomeOf answer)
-  unfolding answerOf
+  pub laid-coloured : {colour : Colour} → answer ≡ Coloured colour → r ≡ 1 ∷ (colourWords colour ++ (0 ∷ 0 ∷ 0 ∷ [])) → r ≡ answerRecord (outcomeOf answer)
+  unfolding answerRecord
   laid-coloured e q = rw e q
 
   pub laid-tried : {colour : Colour} {e : Difference} {verdict : Verdict} {a b v : ℕ} → answer ≡ Tried colour e verdict
-      → (a ∷ b ∷ []) ≡ differenceWords e → v ≡ verdictWord verdict → r ≡ 2 ∷ (colourWords colour ++ (a ∷ b ∷ v ∷ [])) → r ≡ answerOf (outcomeOf answer)
-  unfolding answerOf
-  laid-tried {colour} e p k q = rw e (q ∙ λ i. 2 ∷ (colourWords colour ++ (p i ++ (k i ∷ []))))
+      → a ≡ spaceWord (amountOf e .space) → b ≡ amountOf e .units → v ≡ verdictWord verdict → r ≡ 2 ∷ (colourWords colour ++ (a ∷ b ∷ v ∷ [])) → r ≡ answerRecord (outcomeOf answer)
+  unfolding answerRecord
+  laid-tried {colour} told p u k q = rw told (q ∙ λ i. 2 ∷ (colourWords colour ++ (p i ∷ u i ∷ k i ∷ [])))
 
-  pub laid-counted : {t : Tallies} → answer ≡ Counted t → r ≡ 3 ∷ t .passed ∷ t .failed ∷ t .line ∷ replicate 13 0 → r ≡ answerOf (outcomeOf answer)
-  unfolding answerOf
+  pub laid-counted : {t : Tallies} → answer ≡ Counted t → r ≡ 3 ∷ t .passed ∷ t .failed ∷ t .line ∷ replicate 13 0 → r ≡ answerRecord (outcomeOf answer)
+  unfolding answerRecord
   laid-counted e q = rw e q
 
-  pub laid-refused : {cause : Cause} {n : ℕ} → answer ≡ Refused cause → n ≡ causeNumber cause → r ≡ 4 ∷ n ∷ 0 ∷ 0 ∷ replicate 13 0 → r ≡ answerOf (outcomeOf answer)
-  unfolding answerOf
+  pub laid-refused : {cause : Cause} {n : ℕ} → answer ≡ Refused cause → n ≡ causeNumber cause → r ≡ 4 ∷ n ∷ 0 ∷ 0 ∷ replicate 13 0 → r ≡ answerRecord (outcomeOf answer)
+  unfolding answerRecord
   laid-refused e k q = rw e (q ∙ ap (λ (n : ℕ). 4 ∷ n ∷ replicate 15 0) k)

@@ -10,13 +10,13 @@ use lib.Seq.{sets, drop-cons}
 use Rattle.session.specs.declared.Session.{Session}
 use Rattle.session.specs.declared.Served.{Served}
 use Rattle.session.specs.Call.{Call}
-use Rattle.session.specs.Outcome.{Outcome, outcomeOf}
+use Rattle.session.specs.Outcome.{Outcome}
 use Rattle.session.specs.Ledger.{Ledger, emptyLedger, entered, outcomesAt}
-use Rattle.session.specs.Served.{Valid, freshSession}
+use Rattle.session.specs.Served.{outcomeOf, freshSession, Valid}
 use Rattle.session.specs.Meets.{Meets, sessionOf}
 use Rattle.endian.proofs.Stores.{sets-then, sets-part, sets-front}
-use Rattle.calls.specs.Records.{callWords, answerWords, callAt, callsFrom, callCount, answerOf, answersOf}
-use Rattle.calls.proofs.Laid.{length-answerOf}
+use Rattle.calls.specs.Records.{callWords, answerWords, callAt, callsFrom, callCount, answerRecord, answerRecords}
+use Rattle.calls.proofs.Laid.{length-answer}
 
 -- one turn of the loop that stores words, and its end
 pub words-store : (d words : List ℕ) (i : ℕ) → i < length words → sets (set d i (getD words i 0)) (i + 1) (drop (i + 1) words) ≡ sets d i (drop i words)
@@ -38,24 +38,24 @@ calls-none n records tables spectra at e = rw e
 -- the answers by the ledger l, of so many calls from a place
 module _ (records tables spectra : List ℕ) where
   abbrev pub answersFrom : Ledger → ℕ → ℕ → List ℕ
-  answersFrom l n at = answersOf (outcomesAt l (callsFrom n records tables spectra at))
+  answersFrom l n at = answerRecords (outcomesAt l (callsFrom n records tables spectra at))
 
   answers-more : (l : Ledger) (n m at : ℕ) → n ≡ suc m
-      → answersFrom l n at ≡ answerOf (entered l (callAt records tables spectra at) .outcome) ++ answersFrom (entered l (callAt records tables spectra at) .ledger) m (at + callWords)
-  unfolding answersOf
-  answers-more l n m at e = ap (λ (cs : List Call). answersOf (outcomesAt l cs)) (calls-more n m records tables spectra at e)
+      → answersFrom l n at ≡ answerRecord (entered l (callAt records tables spectra at) .outcome) ++ answersFrom (entered l (callAt records tables spectra at) .ledger) m (at + callWords)
+  unfolding answerRecords
+  answers-more l n m at e = ap (λ (cs : List Call). answerRecords (outcomesAt l cs)) (calls-more n m records tables spectra at e)
 
   answers-none : (l : Ledger) (n at : ℕ) → n ≡ 0 → answersFrom l n at ≡ []
-  unfolding answersOf
-  answers-none l n at e = ap (λ (cs : List Call). answersOf (outcomesAt l cs)) (calls-none n records tables spectra at e)
+  unfolding answerRecords
+  answers-none l n at e = ap (λ (cs : List Call). answerRecords (outcomesAt l cs)) (calls-none n records tables spectra at e)
 
   pub length-answers : (l : Ledger) (n at : ℕ) → length (answersFrom l n at) ≡ answerWords * n
   length-answers l zero at = ap length (answers-none l zero at refl)
   length-answers l (suc n) at =
       let o : Outcome = entered l (callAt records tables spectra at) .outcome in
       let next : Ledger = entered l (callAt records tables spectra at) .ledger in
-      ap length (answers-more l (suc n) n at refl) ∙ length-append (answerOf o) (answersFrom next n (at + callWords))
-      ∙ omega (arith, length-answerOf o, length-answers next n (at + callWords))
+      ap length (answers-more l (suc n) n at refl) ∙ length-append (answerRecord o) (answersFrom next n (at + callWords))
+      ∙ omega (arith, length-answer o, length-answers next n (at + callWords))
 
   -- where a run stands: some ledger that the session stands for, whose answers to the calls left, stored from here, give those to the whole list
   -- stored into the buffer as it was
@@ -72,7 +72,7 @@ module _ (records tables spectra : List ℕ) where
     -- k is the length of the part that is lent, ys what the writer leaves there
     pub along-next : {from to left : ℕ} {buffer : List ℕ} {s : Session} {r : Served} (k : ℕ) (ys : List ℕ) → Along from to left buffer s → 0 < left
         → Meets s (callAt records tables spectra from) r → to ≤ length buffer → length buffer - to ≡ k
-        → ys ≡ sets (take k (drop to buffer)) 0 (answerOf (outcomeOf (r .answer)))
+        → ys ≡ sets (take k (drop to buffer)) 0 (answerRecord (outcomeOf (r .answer)))
         → Along (from + callWords) (to + answerWords) (left - 1) (take to buffer ++ (ys ++ drop k (drop to buffer))) (r .session)
     along-next {from} {to} {left} {buffer} k ys a h m f g q =
         let l : Ledger = a .ledger in
@@ -85,9 +85,9 @@ module _ (records tables spectra : List ℕ) where
           stands = m .next l (a .stands);
           rest =
               ap (λ (d : List ℕ). sets (take to buffer ++ (d ++ drop k (drop to buffer))) (to + answerWords) more)
-              (q ∙ ap (λ (x : Outcome). sets (take k (drop to buffer)) 0 (answerOf x)) (m .outcome l (a .stands)))
-              ∙ ap (λ (d : List ℕ). sets d (to + answerWords) more) (sets-part buffer to k (answerOf o) f g)
-              ∙ sets-then buffer to answerWords (answerOf o) more (length-answerOf o)
+              (q ∙ ap (λ (x : Outcome). sets (take k (drop to buffer)) 0 (answerRecord x)) (m .outcome l (a .stands)))
+              ∙ ap (λ (d : List ℕ). sets d (to + answerWords) more) (sets-part buffer to k (answerRecord o) f g)
+              ∙ sets-then buffer to answerWords (answerRecord o) more (length-answer o)
               ∙ ap (λ (xs : List ℕ). sets buffer to xs) (sym (answers-more l left (left - 1) from (omega arith)))
               ∙ a .rest;
         }

@@ -7,10 +7,10 @@ use lib.ListN.{drop}
 use Rattle.session.specs.Outcome.{Outcome}
 use Rattle.session.specs.Ledger.{emptyLedger}
 use Rattle.session.specs.Claim.{Each, Right}
-use Rattle.calls.specs.Records.{answerWords, callCount, answersOf}
+use Rattle.calls.specs.Records.{answerWords, callCount, answerRecords}
 use Rattle.calls.specs.Run.{callsIn, answersAfter}
 
 pub record RunRight (records tables spectra buffer : List ℕ) : Type 0 where
   pub outcomes : List Outcome
   pub right : Each Right [] emptyLedger (callsIn records tables spectra) outcomes
-  pub answered : answersAfter records tables spectra buffer ≡ answersOf outcomes ++ drop (answerWords * callCount records) buffer
+  pub answered : answersAfter records tables spectra buffer ≡ answerRecords outcomes ++ drop (answerWords * callCount records) buffer

@@ -27,12 +27,11 @@ use Rattle.endian.specs.Bytes.{twos}
 use Rattle.cie.specs.declared.Chromaticity.{Chromaticity}
 use Rattle.cie.specs.declared.Chromaticity.the-variants.{None, At}
 use Rattle.cie.specs.declared.Colour.{Colour}
+use Rattle.cie.specs.declared.Space.{Space}
 use Rattle.cie.specs.declared.Space.the-variants.{Cielab, Cieluv}
 use Rattle.cie.specs.declared.Verdict.{Verdict}
 use Rattle.cie.specs.declared.Verdict.the-variants.{Pass, Fail, OnTheLine}
 use Rattle.cie.specs.Sums.{tablesOf}
-use Rattle.session.specs.declared.Difference.{Difference}
-use Rattle.session.specs.declared.Difference.the-variants.{Lab, Luv}
 use Rattle.session.specs.Call.{Call, open-tables, open-light, set-standard, set-tolerance, trial, report}
 use Rattle.session.specs.Outcome.{Outcome, accepted, coloured, tried, counted, refused}
 
@@ -90,23 +89,23 @@ colourWords c =
     ++ (chromaticityWords (c .chromaticity)
     ++ (c .l ∷ twos (c .a) ∷ twos (c .b) ∷ twos (c .u) ∷ twos (c .v) ∷ c .cab ∷ c .cuv ∷ []))
 
-abbrev pub differenceWords : Difference → List ℕ
-differenceWords (Lab e) = 0 ∷ e .0 ∷ []
-differenceWords (Luv e) = 1 ∷ e .0 ∷ []
+abbrev pub spaceWord : Space → ℕ
+spaceWord Cielab = 0
+spaceWord Cieluv = 1
 
 abbrev pub verdictWord : Verdict → ℕ
 verdictWord Pass = 0
 verdictWord Fail = 1
 verdictWord OnTheLine = 2
 
-unfoldable pub answerOf : Outcome → List ℕ
-answerOf accepted = 0 ∷ replicate 16 0
-answerOf (coloured colour) = 1 ∷ (colourWords colour ++ replicate 3 0)
-answerOf (tried colour e verdict) = 2 ∷ (colourWords colour ++ (differenceWords e ++ (verdictWord verdict ∷ [])))
-answerOf (counted t) = 3 ∷ t .passed ∷ t .failed ∷ t .line ∷ replicate 13 0
-answerOf (refused cause) = 4 ∷ cause ∷ replicate 15 0
+unfoldable pub answerRecord : Outcome → List ℕ
+answerRecord accepted = 0 ∷ replicate 16 0
+answerRecord (coloured colour) = 1 ∷ (colourWords colour ++ replicate 3 0)
+answerRecord (tried colour e verdict) = 2 ∷ (colourWords colour ++ (spaceWord (e .space) ∷ e .units ∷ verdictWord verdict ∷ []))
+answerRecord (counted n) = 3 ∷ n .passed ∷ n .failed ∷ n .line ∷ replicate 13 0
+answerRecord (refused cause) = 4 ∷ cause ∷ replicate 15 0
 
 -- the answers of some outcomes, one after the other
-unfoldable pub answersOf : List Outcome → List ℕ
-answersOf [] = []
-answersOf (o ∷ os) = answerOf o ++ answersOf os
+unfoldable pub answerRecords : List Outcome → List ℕ
+answerRecords [] = []
+answerRecords (o ∷ os) = answerRecord o ++ answerRecords os

@@ -5,12 +5,12 @@ use lib.Dec.{ltb}
 use lib.ListN.{length, drop}
 use Rattle.causes.specs.declared.Cause.the-variants.{ShortBuffer}
 use Rattle.causes.specs.Causes.{causeNumber, Numbered, accepted, refused}
-use Rattle.causes.specs.Checks.{Check, check, firstOf, unless}
+use Rattle.causes.specs.Checks.{Check, check, firstOf, unless, numbered}
 use Rattle.session.specs.Call.{Call}
 use Rattle.session.specs.Ledger.{emptyLedger, outcomesAt}
 use Rattle.calls.specs.declared.Ran.{Ran}
 use Rattle.calls.specs.declared.Ran.the-variants.{Answered, Refused}
-use Rattle.calls.specs.Records.{answerWords, callsFrom, callCount, answersOf}
+use Rattle.calls.specs.Records.{answerWords, callsFrom, callCount, answerRecords}
 
 -- the list of calls that the slices hold
 abbrev pub callsIn : List ℕ → List ℕ → List ℕ → List Call
@@ -21,16 +21,16 @@ abbrev pub runChecks : List ℕ → ℕ → List Check
 runChecks records room = check (ltb room (answerWords * callCount records)) ShortBuffer ∷ []
 
 -- what a run answers, in the paper's numbers
-abbrev pub runAnswer : Ran → Numbered
+abbrev pub runAnswer : Ran → Numbered ℕ
 runAnswer (Answered n) = accepted n
 runAnswer (Refused cause) = refused (causeNumber cause)
 
 -- how many calls were answered, or the cause
-unfoldable pub ran : List ℕ → ℕ → Ran
-ran records room = unless (firstOf (runChecks records room)) Refused (Answered (callCount records))
+unfoldable pub ran : List ℕ → ℕ → Numbered ℕ
+ran records room = numbered (firstOf (runChecks records room)) (callCount records)
 
 -- the answers of the ledger for the list that the slices hold, and the rest of the buffer untouched
 unfoldable pub answersAfter : List ℕ → List ℕ → List ℕ → List ℕ → List ℕ
 answersAfter records tables spectra buffer =
     unless (firstOf (runChecks records (length buffer))) (λ _. buffer)
-    (answersOf (outcomesAt emptyLedger (callsIn records tables spectra)) ++ drop (answerWords * callCount records) buffer)
+    (answerRecords (outcomesAt emptyLedger (callsIn records tables spectra)) ++ drop (answerWords * callCount records) buffer)

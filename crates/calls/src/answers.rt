@@ -4,8 +4,8 @@ ghost use Prim.Native.Nat.{_≤_};
 ghost use mathlib.Core.List.{[], _∷_, _++_};
 ghost use lib.ListN.{length, replicate};
 ghost use lib.Seq.{sets};
-ghost use Rattle.session.specs.Outcome.{outcomeOf};
-ghost use Rattle.calls.specs.Records.{answerWords, chromaticityWords, differenceWords, verdictWord, colourWords, answerOf};
+ghost use Rattle.session.specs.Served.{amountOf, outcomeOf};
+ghost use Rattle.calls.specs.Records.{answerWords, chromaticityWords, spaceWord, verdictWord, colourWords, answerRecord};
 use cie::Chromaticity;
 use cie::Colour;
 use cie::Verdict;
@@ -36,11 +36,11 @@ fn verdict_word(v: Verdict) -> u32
     }
 }
 
-// The space of a difference, and its amount.
+// The space of a difference, and its units.
 struct Amount(u32, u32);
 
 fn amount_of(e: Difference) -> Amount
-    ensures { λ r. ⌜ (r .0 ∷ r .1 ∷ []) ≡ differenceWords e ⌝ }
+    ensures { λ r. ⌜ (r .0 ≡ spaceWord (amountOf e .space)) × (r .1 ≡ amountOf e .units) ⌝ }
 {
     match e {
         Difference::Lab(units) => Amount(0, units.0),
@@ -83,7 +83,7 @@ fn short_words(kind: u32, a: u32, b: u32, c: u32) -> [u32; 17]
 }
 
 fn words_of(answer: Answer) -> [u32; 17]
-    ensures { λ r. ⌜ r ≡ answerOf (outcomeOf answer) ⌝ }
+    ensures { λ r. ⌜ r ≡ answerRecord (outcomeOf answer) ⌝ }
 {
     match answer {
         Answer::Accepted => short_words(0, 0, 0, 0),
@@ -99,7 +99,7 @@ fn words_of(answer: Answer) -> [u32; 17]
 // Writes an answer's words at the start of the part that is lent.
 pub fn write(part: &mut [u32], answer: Answer)
     requires { ⌜ answerWords ≤ length (now part) ⌝ }
-    ensures { λ _. ⌜ now (part .exit) ≡ sets (now (part .entry)) 0 (answerOf (outcomeOf answer)) ⌝ }
+    ensures { λ _. ⌜ now (part .exit) ≡ sets (now (part .entry)) 0 (answerRecord (outcomeOf answer)) ⌝ }
 {
     let words = words_of(answer);
     let mut i = 0;

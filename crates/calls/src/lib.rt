@@ -85,7 +85,7 @@ fn call(s: Session, records: &[u32], at: usize, tables: &[u32], spectra: &[u16])
 
 // Runs the calls from a fresh session, and writes the answer of each into the buffer.
 pub fn run(records: &[u32], tables: &[u32], spectra: &[u16], buffer: &mut [u32]) -> Ran
-    ensures { λ r. ⌜ runAnswer r ≡ runAnswer (ran (now (records .entry)) (length (now (buffer .entry)))) ⌝ }
+    ensures { λ r. ⌜ runAnswer r ≡ ran (now (records .entry)) (length (now (buffer .entry))) ⌝ }
     ensures { λ _. ⌜ now (buffer .exit) ≡ answersAfter (now (records .entry)) (now (tables .entry)) (now (spectra .entry)) (now (buffer .entry)) ⌝ }
 {
     let n = records.len() / CALL_WORDS;

@@ -2,10 +2,13 @@
 use mathlib.Core.Path.{_≡_, refl}
 use mathlib.Core.Bool.{Bool, true, false, cond}
 use mathlib.Core.List.{List, [], _∷_, _++_}
+use Prim.Native.Nat.{ℕ}
+use native.Mathlib.Omega.{arith}
 use Rattle.causes.specs.declared.Cause.{Cause}
 use Rattle.causes.specs.declared.Checked.{Checked}
 use Rattle.causes.specs.declared.Checked.the-variants.{Clear, Because}
-use Rattle.causes.specs.Checks.{Check, check, firstOf, unless}
+use Rattle.causes.specs.Causes.{causeNumber, accepted, refused}
+use Rattle.causes.specs.Checks.{Check, check, firstOf, unless, numbered}
 
 -- a check that holds ends the call with its cause
 pub fires : {A : Type 0} (b : Bool) (c : Cause) (cs : List Check) (f : Cause → A) (a : A) → b ≡ true → unless (firstOf (check b c ∷ cs)) f a ≡ f c
@@ -30,6 +33,17 @@ refuses t f a c e = rw e
 pub accepts : {A : Type 0} (t : Checked) (f : Cause → A) (a : A) → t ≡ Clear → unless t f a ≡ a
 unfolding unless
 accepts t f a e = rw e
+
+-- an answer in numbers says what its checks found: a cause of that number, or nothing
+pub numbered-refused : {A : Type 0} (found : Checked) (a : A) (n : ℕ) → numbered found a ≡ refused n → (c : Cause) × (found ≡ Because c) × (causeNumber c ≡ n)
+unfolding unless
+numbered-refused Clear a n e = let z : _≡_ {A = ℕ} 0 1 = cc in absurd (omega arith)
+numbered-refused (Because c) a n e = (c, refl, cc)
+
+pub numbered-accepted : {A : Type 0} (found : Checked) (a b : A) → numbered found a ≡ accepted b → (found ≡ Clear) × (b ≡ a)
+unfolding unless
+numbered-accepted Clear a b e = (refl, cc)
+numbered-accepted (Because c) a b e = (cc, cc)
 
 -- where the checks find nothing, none of them holds
 pub clear-head : (b : Bool) (c : Cause) (cs : List Check) → firstOf (check b c ∷ cs) ≡ Clear → b ≡ false

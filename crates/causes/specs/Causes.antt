@@ -21,7 +21,7 @@ causeNumber OutOfOrder = 14
 causeNumber ShortBuffer = 15
 causeNumber NoSuchLight = 16
 
--- an answer in the paper's numbers: a count, or the number of a cause
-pub data Numbered : Type 0 where
-  accepted : ℕ → Numbered
-  refused : ℕ → Numbered
+-- an answer in the paper's numbers and values: what is accepted, or the number of a cause
+pub data Numbered (A : Type 0) : Type 0 where
+  accepted : A → Numbered A
+  refused : ℕ → Numbered A

@@ -5,6 +5,7 @@ use mathlib.Core.List.{List, [], _∷_}
 use Rattle.causes.specs.declared.Cause.{Cause}
 use Rattle.causes.specs.declared.Checked.{Checked}
 use Rattle.causes.specs.declared.Checked.the-variants.{Clear, Because}
+use Rattle.causes.specs.Causes.{causeNumber, Numbered, accepted, refused}
 
 -- a condition, and the cause that it gives
 pub record Check : Type 0 where
@@ -23,3 +24,7 @@ firstOf (c ∷ cs) = cond (c .holds) (Because (c .cause)) (firstOf cs)
 unfoldable pub unless : {A : Type 0} → Checked → (Cause → A) → A → A
 unless Clear refuse answer = answer
 unless (Because c) refuse answer = refuse c
+
+-- the same in the paper's numbers
+abbrev pub numbered : {A : Type 0} → Checked → A → Numbered A
+numbered found answer = unless found (λ c. refused (causeNumber c)) (accepted answer)

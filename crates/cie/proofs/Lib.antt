@@ -1,3 +1,5 @@
+pub mod Marked
+pub mod TableChecks
 pub mod Scales
 pub mod RowSums
 pub mod Lengths
@@ -5,9 +7,7 @@ pub mod Steps
 pub mod Whites
 pub mod Sizes
 pub mod Rule
-pub mod Distances
-pub mod Cielab
-pub mod Cieluv
+pub mod RuleAxes
+pub mod RuleCielab
+pub mod RuleCieluv
 pub mod Verdicts
-pub mod Marked
-pub mod TableChecks

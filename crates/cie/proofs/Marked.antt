@@ -4,7 +4,7 @@ use mathlib.Core.List.{List, [], _∷_}
 use Prim.Native.Nat.{ℕ}
 use lib.IntN.{ℤ, pos, negsuc}
 use lib.ListN.{replicate}
-use Rattle.wide.specs.Roots.{squareRoot, cubeRoot, greatest, climb, digit}
+use Rattle.wide.specs.Roots.{squareRoot, cubeRoot, greatest, climb, nextBit}
 use Rattle.cie.specs.declared.Chromaticity.{Chromaticity}
 use Rattle.cie.specs.declared.Chromaticity.the-variants.{At}
 use Rattle.cie.specs.declared.Colour.{Colour}
@@ -12,7 +12,7 @@ use Rattle.cie.specs.declared.Space.the-variants.{Cielab}
 use Rattle.cie.specs.declared.Verdict.{Verdict}
 use Rattle.cie.specs.declared.Verdict.the-variants.{Pass, Fail, OnTheLine}
 use Rattle.cie.specs.Sums.{Tables, rowSum, sumsOf, whiteOf}
-use Rattle.cie.specs.Colour.{chromaticityOf, stepAt, lightnessAt, aAt, bAt, coordinate, uOf, vOf, chroma, colourOf, labDifference}
+use Rattle.cie.specs.Colour.{chromaticityOf, stepAt, lightnessAt, lAt, aAt, bAt, coordinate, uOf, vOf, chroma, colourOf, labDifference}
 use Rattle.cie.specs.Verdict.{margin, verdictOf}
 
 pub data Value : Type 0 where
@@ -36,6 +36,10 @@ sample = colour (10000 ∷ 1250 ∷ 270 ∷ replicate 78 0)
 abbrev E : ℕ
 E = labDifference (colour (replicate 81 1250)) (colour (replicate 81 270)) .0
 
+-- group 2: L of a sample whose Y is N, beside a white whose Yn is D
+abbrev L : ℕ → ℕ → ℕ
+L N D = lAt 1 (record { x = D; y = D; z = D }) (record { x = N; y = N; z = N })
+
 pub sweep : List Value
 sweep =
     count (stepAt 1 0 1)
@@ -43,11 +47,11 @@ sweep =
     ∷ count (stepAt 1 8857 1000000)
     ∷ count (stepAt 1 1 8)
     ∷ count (stepAt 1 2 1)
-    ∷ count (lightnessAt 1 1 1000)
-    ∷ count (lightnessAt 1 8856 1000000)
-    ∷ count (lightnessAt 1 8857 1000000)
-    ∷ count (lightnessAt 1 1 1)
-    ∷ count (lightnessAt 1 2 1)
+    ∷ count (L 1 1000)
+    ∷ count (L 8856 1000000)
+    ∷ count (L 8857 1000000)
+    ∷ count (L 1 1)
+    ∷ count (L 2 1)
     ∷ count (sample .l)
     ∷ signed (sample .a)
     ∷ signed (sample .b)
@@ -87,5 +91,5 @@ pub marked : sweep ≡
     ∷ verdict OnTheLine
     ∷ verdict Fail
     ∷ []
-unfolding sweep rowSum sumsOf whiteOf colourOf chromaticityOf stepAt lightnessAt aAt bAt uOf vOf coordinate chroma labDifference squareRoot cubeRoot greatest climb digit
+unfolding sweep rowSum sumsOf whiteOf colourOf chromaticityOf stepAt lightnessAt aAt bAt uOf vOf coordinate chroma labDifference squareRoot cubeRoot greatest climb nextBit
 marked = refl

@@ -8,15 +8,14 @@ use lib.Dec.{eqb}
 use lib.IntN.{ℤ, pos, natAbs, _-ℤ_, _*ℤ_}
 use lib.Signed.{quotZ}
 use Rattle.wide.specs.Roots.{squareRoot}
-use Rattle.wide.specs.Words.{distance, apart}
+use Rattle.wide.specs.Words.{apart}
 use Rattle.wide.proofs.Greatest.{root-lt, squareRoot-floor}
 use Rattle.wide.proofs.Scaling.{div-floor}
 use Rattle.wide.proofs.Parts.{abs-parts, apart-parts, scaled-over, scaled-under, share-over, share-under}
 use Rattle.cie.specs.declared.Sums.{Sums}
 use Rattle.cie.specs.declared.Chromaticity.the-variants.{None, At}
-use Rattle.cie.specs.declared.Colour.{Colour}
 use Rattle.cie.specs.Sums.{White, AtMostTwice}
-use Rattle.cie.specs.Colour.{tristimulusScale, tristimulusOf, chromaticityScale, total, chromaticityOf, lAt, aFactor, bFactor, aAt, bAt, stepAt, uOver, vOver, uvUnder, primeScale, prime, uvFactor, coordinate, uOf, vOf, square, squares, chroma, colourOf, labDifference, luvDifference}
+use Rattle.cie.specs.Colour.{tristimulusScale, tristimulusOf, chromaticityScale, xyUnder, chromaticityOf, lAt, aFactor, bFactor, aAt, bAt, stepAt, uOver, vOver, uvUnder, primeScale, prime, uvFactor, coordinate, uOf, vOf, square, squares, chroma, colourOf}
 use Rattle.cie.specs.Sizes.{Sized}
 use Rattle.cie.proofs.Lengths.{square-le, squares-le}
 use Rattle.cie.proofs.Steps.{step-size, lightness-size}
@@ -25,7 +24,7 @@ use Rattle.cie.proofs.Whites.{above-zero, white-x, white-y, white-z, wh
 -- ── the pieces, over plain numbers ──
 
 -- "1,000,000 × X (or Y) / (X+Y+Z)"
-pub ratio-size : (N D : ℕ) → N ≤ D → chromaticityScale * N / D ≤ chromaticityScale
+ratio-size : (N D : ℕ) → N ≤ D → chromaticityScale * N / D ≤ chromaticityScale
 ratio-size N D h = div-le-of-le-mul D (omega arith)
 
 pub u-prime-size : (s : Sums) → prime (uOver s) (uvUnder s) ≤ 40000000
@@ -35,13 +34,13 @@ pub v-prime-size : (s : Sums) → prime (vOver s) (uvUnder s) ≤ 6000000
 v-prime-size s = div-le-of-le-mul (uvUnder s) (omega arith)
 
 -- a or b, by the steps' size
-pub scaled-size : (k a b n : ℕ) → a ≤ n → b ≤ n → natAbs (pos k *ℤ (pos a -ℤ pos b)) ≤ k * n
+scaled-size : (k a b n : ℕ) → a ≤ n → b ≤ n → natAbs (pos k *ℤ (pos a -ℤ pos b)) ≤ k * n
 scaled-size k a b n p q =
     rw (abs-parts, scaled-over, scaled-under)
     (omega (arith, mul-le-mul-left k (le-trans (sub-le a b) p), mul-le-mul-left k (le-trans (sub-le b a) q)))
 
 -- u or v, where 13 × u' or v', of the sample and of the white, is at most f
-pub coordinate-size : (L A S B W f : ℕ) → 0 < W → uvFactor * A ≤ f * S → uvFactor * B ≤ f * W → natAbs (coordinate L A S B W) ≤ f * L
+coordinate-size : (L A S B W f : ℕ) → 0 < W → uvFactor * A ≤ f * S → uvFactor * B ≤ f * W → natAbs (coordinate L A S B W) ≤ f * L
 unfolding coordinate
 coordinate-size L A S B W f hW hA hB = go (eqb S 0) refl
   where
@@ -60,19 +59,19 @@ coordinate-size L A S B W f hW hA hB = go (eqb S 0) refl
 pub apart-size : (x y : ℤ) → apart x y ≤ natAbs x + natAbs y
 apart-size x y = omega (arith, apart-parts x y, abs-parts x, abs-parts y)
 
-pub root-size : (m n : ℕ) → m < square n → squareRoot m < n
+root-size : (m n : ℕ) → m < square n → squareRoot m < n
 root-size m n h = root-lt (squareRoot m) n (omega (arith, (squareRoot-floor m) .0))
 
 -- ── the values of a colour ──
 
 module _ {w s : Sums} (W : White w) (S : AtMostTwice w s) where
-  pub tristimulus-x-size : tristimulusScale * s .x / w .y ≤ 20000000
+  tristimulus-x-size : tristimulusScale * s .x / w .y ≤ 20000000
   tristimulus-x-size = div-le-of-le-mul (w .y) (omega (arith, white-x-even W))
 
-  pub tristimulus-y-size : tristimulusScale * s .y / w .y ≤ 2000000
+  tristimulus-y-size : tristimulusScale * s .y / w .y ≤ 2000000
   tristimulus-y-size = div-le-of-le-mul (w .y) (omega arith)
 
-  pub tristimulus-z-size : tristimulusScale * s .z / w .y ≤ 20000000
+  tristimulus-z-size : tristimulusScale * s .z / w .y ≤ 20000000
   tristimulus-z-size = div-le-of-le-mul (w .y) (omega (arith, white-z-even W))
 
   pub l-size : lAt 1 w s ≤ 1301508
@@ -109,45 +108,41 @@ module _ {w s : Sums} (W : White w) (S : AtMostTwice w s) where
 -- ── lengths: the sum of squares is below n², so below 2^64, and its root is below n ──
 
 module _ (p q : ℤ) where
-  pub cab-squares : natAbs p ≤ 6299605 → natAbs q ≤ 2519842 → square (natAbs p) + square (natAbs q) < square 6800000
+  cab-squares : natAbs p ≤ 6299605 → natAbs q ≤ 2519842 → square (natAbs p) + square (natAbs q) < square 6800000
   cab-squares h k = omega (arith, square-le h, square-le k)
 
-  pub cab-size : natAbs p ≤ 6299605 → natAbs q ≤ 2519842 → chroma p q < 6800000
+  cab-size : natAbs p ≤ 6299605 → natAbs q ≤ 2519842 → chroma p q < 6800000
   unfolding chroma
   cab-size h k = root-size _ 6800000 (cab-squares h k)
 
-  pub cuv-squares : natAbs p ≤ 67678416 → natAbs q ≤ 10412064 → square (natAbs p) + square (natAbs q) < square 68500000
+  cuv-squares : natAbs p ≤ 67678416 → natAbs q ≤ 10412064 → square (natAbs p) + square (natAbs q) < square 68500000
   cuv-squares h k = omega (arith, square-le h, square-le k)
 
-  pub cuv-size : natAbs p ≤ 67678416 → natAbs q ≤ 10412064 → chroma p q < 68500000
+  cuv-size : natAbs p ≤ 67678416 → natAbs q ≤ 10412064 → chroma p q < 68500000
   unfolding chroma
   cuv-size h k = root-size _ 68500000 (cuv-squares h k)
 
-module _ (x y z : ℕ) where
-  pub lab-squares : x ≤ 1301508 → y ≤ 12599210 → z ≤ 5039684 → squares x y z < square 13700000
-  lab-squares h k l = omega (arith, squares-le h k l)
-
-  pub luv-squares : x ≤ 1301508 → y ≤ 135356832 → z ≤ 20824128 → squares x y z < square 137000000
-  luv-squares h k l = omega (arith, squares-le h k l)
+pub luv-squares : (x y z : ℕ) → x ≤ 1301508 → y ≤ 135356832 → z ≤ 20824128 → squares x y z < square 137000000
+luv-squares x y z h k l = omega (arith, squares-le h k l)
 
 -- ── a whole colour ──
 
-pub chromaticity-size : (s : Sums) (x y : ℕ) → chromaticityOf s ≡ At x y → (x ≤ 1000000) × (y ≤ 1000000)
+chromaticity-size : (s : Sums) (x y : ℕ) → chromaticityOf s ≡ At x y → (x ≤ 1000000) × (y ≤ 1000000)
 unfolding chromaticityOf
-chromaticity-size s x y = go (eqb (total s) 0)
+chromaticity-size s x y = go (eqb (xyUnder s) 0)
   where
     p : ℕ
-    p = chromaticityScale * s .x / total s
+    p = chromaticityScale * s .x / xyUnder s
 
     q : ℕ
-    q = chromaticityScale * s .y / total s
+    q = chromaticityScale * s .y / xyUnder s
 
     go : (b : Bool) → cond b None (At p q) ≡ At x y → (x ≤ 1000000) × (y ≤ 1000000)
     go true e = let z : _≡_ {A = ℕ} 0 1 = cc in omega arith
     go false e =
         let f : p ≡ x = cc in
         let g : q ≡ y = cc in
-        omega (arith, ratio-size (s .x) (total s) (omega arith), ratio-size (s .y) (total s) (omega arith))
+        omega (arith, ratio-size (s .x) (xyUnder s) (omega arith), ratio-size (s .y) (xyUnder s) (omega arith))
 
 pub colour-sized : {w s : Sums} → White w → AtMostTwice w s → Sized (colourOf w s)
 unfolding colourOf tristimulusOf
@@ -165,29 +160,3 @@ colour-sized {w} {s} W S =
       cab = cab-size (aAt 1 w s) (bAt 1 w s) (a-size W S) (b-size W S);
       cuv = cuv-size (uOf w s) (vOf w s) (u-size W S) (v-size W S);
     }
-
--- ── the differences of two colours ──
-
-module _ {p q : Colour} (P : Sized p) (Q : Sized q) where
-  pub l-apart : distance (p .l) (q .l) ≤ 1301508
-  l-apart = omega arith
-
-  pub a-apart : apart (p .a) (q .a) ≤ 12599210
-  a-apart = omega (arith, apart-size (p .a) (q .a))
-
-  pub b-apart : apart (p .b) (q .b) ≤ 5039684
-  b-apart = omega (arith, apart-size (p .b) (q .b))
-
-  pub u-apart : apart (p .u) (q .u) ≤ 135356832
-  u-apart = omega (arith, apart-size (p .u) (q .u))
-
-  pub v-apart : apart (p .v) (q .v) ≤ 20824128
-  v-apart = omega (arith, apart-size (p .v) (q .v))
-
-  pub lab-difference-size : labDifference p q .0 < 13700000
-  unfolding labDifference
-  lab-difference-size = root-size _ 13700000 (lab-squares _ _ _ l-apart a-apart b-apart)
-
-  pub luv-difference-size : luvDifference p q .0 < 137000000
-  unfolding luvDifference
-  luv-difference-size = root-size _ 137000000 (luv-squares _ _ _ l-apart u-apart v-apart)

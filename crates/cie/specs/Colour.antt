@@ -29,11 +29,11 @@ tristimulusOf w s =
 abbrev pub chromaticityScale : ℕ
 chromaticityScale = 1000000
 
-abbrev pub total : Sums → ℕ
-total s = s .x + s .y + s .z
+abbrev pub xyUnder : Sums → ℕ
+xyUnder s = s .x + s .y + s .z
 
 unfoldable pub chromaticityOf : Sums → Chromaticity
-chromaticityOf s = cond (eqb (total s) 0) None (At (chromaticityScale * s .x / total s) (chromaticityScale * s .y / total s))
+chromaticityOf s = cond (eqb (xyUnder s) 0) None (At (chromaticityScale * s .x / xyUnder s) (chromaticityScale * s .y / xyUnder s))
 
 -- "when N/D > 0.008856": the joint, in 1/1,000,000
 abbrev pub joint : ℕ

@@ -44,7 +44,7 @@ AtMost c Q T = (M : ℕ) → 1 ≤ M → Q M ≤ square (M * T + c)
 unfoldable pub Exceeds : ℕ → (ℕ → ℕ) → ℕ → Type 0
 Exceeds c Q T = (M : ℕ) × (1 ≤ M) × (square (M * T + c) < Q M)
 
--- "for some M, (M × T − c) is positive and its square exceeds Q"
+-- "for some M, (M × (T + h) − c) is positive and its square exceeds Q": here T stands for T + h
 unfoldable pub Below : ℕ → (ℕ → ℕ) → ℕ → Type 0
 Below c Q T = (M : ℕ) × (1 ≤ M) × (c < M * T) × (Q M < square (M * T - c))
 

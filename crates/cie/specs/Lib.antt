@@ -1,6 +1,7 @@
 pub mod Scales
 pub mod Tables
 pub mod Sums
+pub mod Lights
 pub mod Colour
 pub mod Sizes
 pub mod Exact

@@ -67,9 +67,9 @@ module _ {l m : ℕ} {p q r s : ℤ} (A : Within l p r) (B : Within m q s) (x y 
   q-apart : z ≡ apart r s
   q-apart = g ∙ rw (small-passed r (omega arith), small-passed s (omega arith))
 
-  pub length-fits : squares x y z < 2 ^ 64
-  length-fits =
+  pub squares-fit : squares x y z < 2 ^ 64
+  squares-fit =
       omega (arith, luv-squares x y z (omega arith) (omega (arith, p-apart, apart-size p q)) (omega (arith, q-apart, apart-size r s)))
 
-  pub length-is : (n : ℕ) → n ≡ squareRoot (squares x y z) → n ≡ squareRoot (squares (distance l m) (apart p q) (apart r s))
-  length-is n h = rw (← e, ← p-apart, ← q-apart) h
+  pub root-is : (n : ℕ) → n ≡ squareRoot (squares x y z) → n ≡ squareRoot (squares (distance l m) (apart p q) (apart r s))
+  root-is n h = rw (← e, ← p-apart, ← q-apart) h

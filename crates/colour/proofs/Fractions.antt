@@ -8,7 +8,7 @@ use borrow.Author.Tests.{ne-eqb}
 use lib.Dec.{eqb}
 use Rattle.cie.specs.declared.Sums.{Sums}
 use Rattle.cie.specs.declared.Chromaticity.the-variants.{None, At}
-use Rattle.cie.specs.Colour.{tristimulusScale, tristimulusOf, chromaticityScale, total, chromaticityOf}
+use Rattle.cie.specs.Colour.{tristimulusScale, tristimulusOf, chromaticityScale, xyUnder, chromaticityOf}
 
 -- ── numbers of two digits in a base P ──
 
@@ -47,7 +47,7 @@ pub tristimulus-is : (w s : Sums) (x y z : ℕ) →
 unfolding tristimulusOf
 tristimulus-is w s x y z e f g = rw (e, f, g, zero-add)
 
-module _ (s : Sums) (d : ℕ) (e : d ≡ total s) (b : Bool) (t : b ≡ eqb d 0) where
+module _ (s : Sums) (d : ℕ) (e : d ≡ xyUnder s) (b : Bool) (t : b ≡ eqb d 0) where
   pub no-chromaticity : b ≡ true → None ≡ chromaticityOf s
   unfolding chromaticityOf
   no-chromaticity h = rw (← e, ← t, h)

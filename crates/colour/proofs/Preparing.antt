@@ -12,19 +12,21 @@ use Rattle.causes.specs.declared.Cause.{Cause}
 use Rattle.causes.specs.declared.Cause.the-variants.{NoSuchLight}
 use Rattle.causes.specs.declared.Checked.{Checked}
 use Rattle.causes.specs.declared.Checked.the-variants.{Clear, Because}
-use Rattle.causes.specs.Checks.{firstOf, unless}
-use Rattle.causes.proofs.Checks.{clear-head, clear-tail, accepts, fires, either}
+use Rattle.causes.specs.Causes.{causeNumber, Numbered, accepted, refused}
+use Rattle.causes.specs.Checks.{firstOf, numbered}
+use Rattle.causes.proofs.Checks.{clear-head, clear-tail, accepts, fires, numbered-refused, numbered-accepted}
 use Rattle.cie.specs.declared.Sums.{Sums}
 use Rattle.cie.specs.Scales.{rows, whiteReading, illuminantLimit, columnLimit, anyAbove}
 use Rattle.cie.specs.Tables.{observerX, observerY, observerZ, illuminantA, illuminantD65}
 use Rattle.cie.specs.Sums.{Tables, tablesOf, rowSum, sumsOf, whiteOf, White}
+use Rattle.cie.specs.Lights.{lightA, lightD65, lightTables}
 use Rattle.cie.specs.Colour.{uvUnder}
 use Rattle.cie.proofs.Scales.{or-left, or-right}
 use Rattle.colour.specs.declared.conditions.WhitePoint.{WhitePoint}
 use Rattle.colour.specs.declared.conditions.Conditions.{Conditions}
 use Rattle.colour.specs.declared.conditions.Prepared.{Prepared}
 use Rattle.colour.specs.Weights.{weightsOf, dot, dots, whiteReadings, Weights}
-use Rattle.colour.specs.Conditions.{short, anyShort, anyOffScale, tableChecks, whitePointOf, conditionsOf, noConditions, refusedConditions, acceptedConditions, preparedOf, lightA, lightD65, lightChecks, lightTables, preparedLight, Sound}
+use Rattle.colour.specs.Conditions.{short, anyShort, anyOffScale, tableChecks, whitePointOf, conditionsOf, noConditions, checkedAnswer, conditionsIn, preparedOf, lightChecks, preparedLight, Sound, Prepares}
 use Rattle.colour.proofs.Dots.{weights-length, weights-below, sums-same}
 
 -- a white that is not dark has a u' and a v'
@@ -132,13 +134,18 @@ light-clear light = clear-of (eqb light lightA)
 pub sound-light : (light : ℕ) → Sound (conditionsOf (lightTables light))
 sound-light light = sound-tables (lightTables light) (light-clear light)
 
--- what is answered behind checks is sound where what they accept is
-sound-by : {found : Checked} {k : Conditions} {p : Prepared} → (found ≡ Clear → Sound k) → p ≡ unless found refusedConditions (record { checked = Clear; conditions = k }) → Sound (p .conditions)
-sound-by {found} {k} s e = subst (λ (q : Prepared). Sound (q .conditions)) (sym e) (either found (λ q. Sound (q .conditions)) refusedConditions (record { checked = Clear; conditions = k }) (λ c. sound-none) s)
+-- a preparation that promises an answer promises whatever equals it
+pub prepares-as : {a b : Numbered Conditions} {p : Prepared} → b ≡ a → Prepares a p → Prepares b p
+prepares-as {p = p} e = subst (λ (n : Numbered Conditions). Prepares n p) (sym e)
 
-pub answered : (t : Tables) {p : Prepared} → p ≡ unless (firstOf (tableChecks t)) refusedConditions (acceptedConditions t) → (p ≡ preparedOf t) × Sound (p .conditions)
-unfolding preparedOf
-answered t e = (e, sound-by (sound-tables t) e)
+-- what stands beside a clear answer is sound where the checks found nothing
+pub accepted-as : (t : Tables) {k : Conditions} → k ≡ conditionsOf t → preparedOf t ≡ accepted (conditionsOf t) → Prepares (preparedOf t) (record { checked = Clear; conditions = k })
+accepted-as t e a =
+    record {
+      answer = ap accepted e ∙ sym a;
+      beside = e ∙ sym (ap conditionsIn a);
+      sound = subst Sound (sym e) (sound-tables t (numbered-accepted _ _ _ a .0));
+    }
 
 module _ (t : Tables) {x y z : List ℕ} (p : x ≡ weightsOf (t .illuminant) (t .x)) (q : y ≡ weightsOf (t .illuminant) (t .y)) (r : z ≡ weightsOf (t .illuminant) (t .z)) where
   pub weighed : Fit t → Weights x × Weights y × Weights z
@@ -147,18 +154,13 @@ module _ (t : Tables) {x y z : List ℕ} (p : x ≡ weightsOf (t .illuminant) (t
   pub white-by : {w : Sums} → length (t .illuminant) ≡ rows → w ≡ dots x y z whiteReadings → w ≡ whiteOf t
   white-by l e = e ∙ rw (p, q, r) (white-same t l)
 
-  pub accepted-by : {w : Sums} {n : WhitePoint} → w ≡ whiteOf t → n ≡ whitePointOf w → _≡_ {A = Prepared} (record { checked = Clear; conditions = record { x = x; y = y; z = z; white = n } }) (acceptedConditions t)
-  accepted-by {w} {n} e f = let g : n ≡ whitePointOf (whiteOf t) = f ∙ ap whitePointOf e in cc
-
-pub opened : (light : ℕ) {p : Prepared} → p ≡ preparedLight light → (p ≡ preparedLight light) × Sound (p .conditions)
-unfolding preparedLight
-opened light e = (e, sound-by (λ c. sound-light light) e)
+  pub conditions-by : {w : Sums} {n : WhitePoint} → w ≡ whiteOf t → n ≡ whitePointOf w → _≡_ {A = Conditions} (record { x = x; y = y; z = z; white = n }) (conditionsOf t)
+  conditions-by {w} {n} e f = let g : n ≡ whitePointOf (whiteOf t) = f ∙ ap whitePointOf e in cc
 
 module _ (light : ℕ) where
   -- the light's own tables pass, so that its opening has no check but its own
-  pub opened-by : {i x y z : List ℕ} {p : Prepared} → firstOf (lightChecks light) ≡ Clear → i ≡ lightTables light .illuminant → x ≡ observerX → y ≡ observerY → z ≡ observerZ → p ≡ preparedOf (tablesOf i x y z) → p ≡ preparedLight light
-  unfolding preparedOf preparedLight
-  opened-by h a b c d e = e ∙ rw (a, b, c, d) (accepts _ _ _ (light-clear light)) ∙ sym (accepts _ _ _ h)
+  pub opened-by : {i x y z : List ℕ} → firstOf (lightChecks light) ≡ Clear → i ≡ lightTables light .illuminant → x ≡ observerX → y ≡ observerY → z ≡ observerZ → preparedLight light ≡ preparedOf (tablesOf i x y z)
+  opened-by h a b c d = accepts _ _ _ h ∙ sym (rw (a, b, c, d) (accepts _ _ _ (light-clear light)))
 
   pub light-a : light ≡ lightA → (firstOf (lightChecks light) ≡ Clear) × (illuminantA ≡ lightTables light .illuminant)
   unfolding firstOf
@@ -169,35 +171,16 @@ module _ (light : ℕ) where
     unfolding firstOf
     light-d65 e = (rw (ne-eqb light lightA n, eq-eqb light lightD65 e), rw (ne-eqb light lightA n))
 
-    pub light-none : (light ≡ lightD65 → ⊥) → preparedLight light ≡ refusedConditions NoSuchLight
-    unfolding preparedLight
+    pub light-none : (light ≡ lightD65 → ⊥) → preparedLight light ≡ refused (causeNumber NoSuchLight)
     light-none m = fires _ _ _ _ _ (rw (ne-eqb light lightA n, ne-eqb light lightD65 m))
 
-by-because : (found : Checked) (k : Conditions) (p : Prepared) (c : Cause) → p ≡ unless found refusedConditions (record { checked = Clear; conditions = k }) → p .checked ≡ Because c → found ≡ Because c
-unfolding unless
-by-because Clear k p c h e = let q : Clear ≡ Because c = rw h at e in cc
-by-because (Because d) k p c h e = rw h at e
+-- what a preparation's answer says of the checks behind it
+module _ (found : Checked) (k : Conditions) {p : Prepared} (e : Prepares (numbered found k) p) where
+  told : {n : Numbered Conditions} → checkedAnswer (p .checked) (p .conditions) ≡ n → numbered found k ≡ n
+  told h = sym (e .answer) ∙ h
 
-by-clear : (found : Checked) (k : Conditions) (p : Prepared) → p ≡ unless found refusedConditions (record { checked = Clear; conditions = k }) → p .checked ≡ Clear → (found ≡ Clear) × (p .conditions ≡ k)
-unfolding unless
-by-clear Clear k p h e = (refl, rw h)
-by-clear (Because d) k p h e = let q : Because d ≡ Clear = rw h at e in (q, cc)
+  pub prepared-because : {c : Cause} → p .checked ≡ Because c → (d : Cause) × (found ≡ Because d) × (causeNumber d ≡ causeNumber c)
+  prepared-because h = numbered-refused found k _ (told (ap (λ (q : Checked). checkedAnswer q (p .conditions)) h))
 
--- what an answer says of its checks
-module _ (t : Tables) (p : Prepared) (e : p ≡ preparedOf t) where
-  pub prepared-because : (c : Cause) → p .checked ≡ Because c → firstOf (tableChecks t) ≡ Because c
-  unfolding preparedOf
-  prepared-because c = by-because (firstOf (tableChecks t)) (conditionsOf t) p c e
-
-  pub prepared-clear : p .checked ≡ Clear → (firstOf (tableChecks t) ≡ Clear) × (p .conditions ≡ conditionsOf t)
-  unfolding preparedOf
-  prepared-clear = by-clear (firstOf (tableChecks t)) (conditionsOf t) p e
-
-module _ (light : ℕ) (p : Prepared) (e : p ≡ preparedLight light) where
-  pub opened-because : (c : Cause) → p .checked ≡ Because c → firstOf (lightChecks light) ≡ Because c
-  unfolding preparedLight
-  opened-because c = by-because (firstOf (lightChecks light)) (conditionsOf (lightTables light)) p c e
-
-  pub opened-clear : p .checked ≡ Clear → (firstOf (lightChecks light) ≡ Clear) × (p .conditions ≡ conditionsOf (lightTables light))
-  unfolding preparedLight
-  opened-clear = by-clear (firstOf (lightChecks light)) (conditionsOf (lightTables light)) p e
+  pub prepared-clear : p .checked ≡ Clear → (found ≡ Clear) × (p .conditions ≡ k)
+  prepared-clear h = numbered-accepted found k _ (told (ap (λ (q : Checked). checkedAnswer q (p .conditions)) h))

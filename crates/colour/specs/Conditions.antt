@@ -1,18 +1,19 @@
 -- Document 01, "Open (tables, or a built-in light): checks 1, 3, 4, 5; for a built-in light 16 only." Assumes nothing.
 use mathlib.Core.Path.{_≡_}
-use mathlib.Core.Bool.{Bool, not, cond, _||_}
+use mathlib.Core.Bool.{Bool, not, _||_}
 use mathlib.Core.List.{List, [], _∷_}
 use Prim.Native.Nat.{ℕ, _≤_}
 use lib.Dec.{eqb}
 use lib.ListN.{length, replicate}
-use Rattle.causes.specs.declared.Cause.{Cause}
 use Rattle.causes.specs.declared.Cause.the-variants.{ShortTable, OffScaleCondition, DarkWhite, LopsidedWhite, NoSuchLight}
+use Rattle.causes.specs.declared.Checked.{Checked}
 use Rattle.causes.specs.declared.Checked.the-variants.{Clear, Because}
-use Rattle.causes.specs.Checks.{Check, check, firstOf, unless}
+use Rattle.causes.specs.Causes.{causeNumber, Numbered, accepted, refused}
+use Rattle.causes.specs.Checks.{Check, check, firstOf, numbered}
 use Rattle.cie.specs.declared.Sums.{Sums}
 use Rattle.cie.specs.Scales.{rows, whiteReading, illuminantLimit, columnLimit, anyAbove}
-use Rattle.cie.specs.Tables.{observerX, observerY, observerZ, illuminantA, illuminantD65}
 use Rattle.cie.specs.Sums.{Tables, whiteOf, dark, lopsided, White}
+use Rattle.cie.specs.Lights.{lightA, lightD65, lightTables}
 use Rattle.cie.specs.Colour.{uOver, vOver, uvUnder, prime}
 use Rattle.colour.specs.declared.conditions.WhitePoint.{WhitePoint}
 use Rattle.colour.specs.declared.conditions.Conditions.{Conditions}
@@ -31,7 +32,7 @@ abbrev pub anyOffScale : Tables → Bool
 anyOffScale t =
     anyAbove illuminantLimit (t .illuminant) || (anyAbove columnLimit (t .x) || (anyAbove columnLimit (t .y) || anyAbove columnLimit (t .z)))
 
--- "Open: checks 1, 3, 4, 5"
+-- "checks 1, 3, 4, 5"
 abbrev pub tableChecks : Tables → List Check
 tableChecks t =
     check (anyShort t) ShortTable
@@ -64,31 +65,28 @@ noConditions =
       white = whitePointOf (record { x = whiteReading; y = whiteReading; z = whiteReading });
     }
 
-abbrev pub refusedConditions : Cause → Prepared
-refusedConditions c = record { checked = Because c; conditions = noConditions }
+-- what preparing answers, in the paper's numbers: the conditions, or the number of the cause that stands beside them
+abbrev pub checkedAnswer : Checked → Conditions → Numbered Conditions
+checkedAnswer Clear c = accepted c
+checkedAnswer (Because cause) c = refused (causeNumber cause)
 
-abbrev pub acceptedConditions : Tables → Prepared
-acceptedConditions t = record { checked = Clear; conditions = conditionsOf t }
+abbrev pub prepareAnswer : Prepared → Numbered Conditions
+prepareAnswer p = checkedAnswer (p .checked) (p .conditions)
 
-unfoldable pub preparedOf : Tables → Prepared
-preparedOf t = unless (firstOf (tableChecks t)) refusedConditions (acceptedConditions t)
+-- the conditions of such an answer: none where it is refused
+abbrev pub conditionsIn : Numbered Conditions → Conditions
+conditionsIn (accepted c) = c
+conditionsIn (refused n) = noConditions
+
+abbrev pub preparedOf : Tables → Numbered Conditions
+preparedOf t = numbered (firstOf (tableChecks t)) (conditionsOf t)
 
 -- 16, no such light: "light not 1 or 2"
-abbrev pub lightA : ℕ
-lightA = 1
-
-abbrev pub lightD65 : ℕ
-lightD65 = 2
-
 abbrev pub lightChecks : ℕ → List Check
 lightChecks light = check (not (eqb light lightA || eqb light lightD65)) NoSuchLight ∷ []
 
--- "light 1 is A, light 2 is D65", each with the 1931 observer
-abbrev pub lightTables : ℕ → Tables
-lightTables light = record { illuminant = cond (eqb light lightA) illuminantA illuminantD65; x = observerX; y = observerY; z = observerZ }
-
-unfoldable pub preparedLight : ℕ → Prepared
-preparedLight light = unless (firstOf (lightChecks light)) refusedConditions (acceptedConditions (lightTables light))
+abbrev pub preparedLight : ℕ → Numbered Conditions
+preparedLight light = numbered (firstOf (lightChecks light)) (conditionsOf (lightTables light))
 
 -- what holds of prepared conditions
 pub record Sound (c : Conditions) : Type 0 where
@@ -100,3 +98,9 @@ pub record Sound (c : Conditions) : Type 0 where
   pub least-z : dot whiteReadings (c .z) ≤ c .white .sums .z
   pub point : c .white ≡ whitePointOf (c .white .sums)
   pub white : White (c .white .sums)
+
+-- what a preparation promises: its answer, the conditions beside it, and that they are sound
+pub record Prepares (n : Numbered Conditions) (p : Prepared) : Type 0 where
+  pub answer : prepareAnswer p ≡ n
+  pub beside : p .conditions ≡ conditionsIn n
+  pub sound : Sound (p .conditions)

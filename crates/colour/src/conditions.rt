@@ -2,9 +2,10 @@
 ghost use mathlib.Core.Path.{_≡_};
 ghost use Prim.Native.Nat.{_*_};
 ghost use lib.Dec.{ltb};
+ghost use Rattle.causes.specs.Causes.{causeNumber, refused};
 ghost use Rattle.cie.specs.Sums.{tablesOf, dark, lopsidedness, lopsided, White};
 ghost use Rattle.colour.specs.Weights.{dots, Weights, whiteReadings};
-ghost use Rattle.colour.specs.Conditions.{anyShort, anyOffScale, whitePointOf, noConditions, refusedConditions, preparedOf, preparedLight, Sound};
+ghost use Rattle.colour.specs.Conditions.{anyShort, anyOffScale, whitePointOf, noConditions, preparedOf, preparedLight, Sound, Prepares};
 use crate::ratios;
 use crate::weights;
 use crate::weights::ROWS;
@@ -145,7 +146,7 @@ pub fn none() -> Conditions
 }
 
 fn refused(cause: Cause) -> Prepared
-    ensures { λ r. ⌜ (r ≡ refusedConditions cause) × Sound (r .conditions) ⌝ }
+    ensures { λ r. ⌜ Prepares (refused (causeNumber cause)) r ⌝ }
 {
     let conditions = none();
     Prepared {
@@ -156,7 +157,7 @@ fn refused(cause: Cause) -> Prepared
 
 // Conditions from an illuminant and the three columns of an observer.
 pub fn prepare(illuminant: &[u32], x: &[u32], y: &[u32], z: &[u32]) -> Prepared
-    ensures { λ r. ⌜ (r ≡ preparedOf (tablesOf (now (illuminant .entry)) (now (x .entry)) (now (y .entry)) (now (z .entry)))) × Sound (r .conditions) ⌝ }
+    ensures { λ r. ⌜ Prepares (preparedOf (tablesOf (now (illuminant .entry)) (now (x .entry)) (now (y .entry)) (now (z .entry)))) r ⌝ }
 {
     if any_short(illuminant, x, y, z) {
         return refused(Cause::ShortTable);
@@ -188,7 +189,7 @@ pub fn prepare(illuminant: &[u32], x: &[u32], y: &[u32], z: &[u32]) -> Prepared
 
 // Conditions of a built-in light: 1 is A, 2 is D65, each with the 1931 observer.
 pub fn prepare_light(light: u32) -> Prepared
-    ensures { λ r. ⌜ (r ≡ preparedLight light) × Sound (r .conditions) ⌝ }
+    ensures { λ r. ⌜ Prepares (preparedLight light) r ⌝ }
 {
     let x = cie::tables::observer_x();
     let y = cie::tables::observer_y();

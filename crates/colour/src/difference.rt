@@ -9,7 +9,7 @@ use cie::LabUnits;
 use cie::LuvUnits;
 
 // The square root of the sum of three squares, down.
-fn length(x: u32, y: u32, z: u32) -> u32
+fn root_of_squares(x: u32, y: u32, z: u32) -> u32
     requires { ⌜ squares x y z < 2 ^ 64 ⌝ }
     ensures { λ r. ⌜ r ≡ squareRoot (squares x y z) ⌝ }
 {
@@ -27,7 +27,7 @@ pub fn lab_difference(p: Colour, q: Colour) -> LabUnits
     let l = wide::signed::distance_of(p.l, q.l);
     let a = wide::signed::apart_of(p.a, q.a);
     let b = wide::signed::apart_of(p.b, q.b);
-    LabUnits(length(l, a, b))
+    LabUnits(root_of_squares(l, a, b))
 }
 
 // E in CIELUV.
@@ -38,5 +38,5 @@ pub fn luv_difference(p: Colour, q: Colour) -> LuvUnits
     let l = wide::signed::distance_of(p.l, q.l);
     let u = wide::signed::apart_of(p.u, q.u);
     let v = wide::signed::apart_of(p.v, q.v);
-    LuvUnits(length(l, u, v))
+    LuvUnits(root_of_squares(l, u, v))
 }

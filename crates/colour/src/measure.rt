@@ -1,7 +1,7 @@
 // Measuring a spectrum under conditions.
 ghost use mathlib.Core.Path.{_≡_};
 ghost use Rattle.colour.specs.Weights.{Weights};
-ghost use Rattle.colour.specs.Measure.{measuredBy};
+ghost use Rattle.colour.specs.Measure.{measureAnswer, measuredBy};
 use crate::weights;
 use crate::weights::ROWS;
 use causes::Cause;
@@ -21,7 +21,7 @@ pub fn measure<'a>(
     z: &'a [u64; 81],
 ) -> Measured
     requires { ⌜ Weights (now x) × Weights (now y) × Weights (now z) ⌝ }
-    ensures { λ r. ⌜ r ≡ measuredBy (now (x .entry)) (now (y .entry)) (now (z .entry)) (now (readings .entry)) ⌝ }
+    ensures { λ r. ⌜ measureAnswer r ≡ measuredBy (now (x .entry)) (now (y .entry)) (now (z .entry)) (now (readings .entry)) ⌝ }
 {
     if readings.len() != ROWS {
         return Measured::Refused(Cause::ShortTable);

@@ -4,7 +4,7 @@ ghost use Prim.Native.Nat.{_*_, _/_, _^_, _<_};
 ghost use lib.Dec.{eqb};
 ghost use Rattle.wide.specs.Words.{value};
 ghost use Rattle.cie.specs.Sums.{White, AtMostTwice};
-ghost use Rattle.cie.specs.Colour.{tristimulusOf, chromaticityOf, total, uOver, vOver, uvUnder, prime};
+ghost use Rattle.cie.specs.Colour.{tristimulusOf, chromaticityOf, xyUnder, uOver, vOver, uvUnder, prime};
 use cie::Chromaticity;
 use cie::Sums;
 use cie::Tristimulus;
@@ -40,8 +40,8 @@ pub fn tristimulus_of(s: Sums, w: Sums) -> Tristimulus
 }
 
 // X + Y + Z.
-fn total_of(s: Sums) -> Wide
-    ensures { λ r. ⌜ value r ≡ total s ⌝ }
+fn xy_under(s: Sums) -> Wide
+    ensures { λ r. ⌜ value r ≡ xyUnder s ⌝ }
 {
     let xy = wide::sum(Wide { hi: 0, lo: s.x }, Wide { hi: 0, lo: s.y });
     wide::sum(xy, Wide { hi: 0, lo: s.z })
@@ -59,7 +59,7 @@ pub fn is_zero(n: Wide) -> bool
 pub fn chromaticity_of(s: Sums) -> Chromaticity
     ensures { λ r. ⌜ r ≡ chromaticityOf s ⌝ }
 {
-    let sum = total_of(s);
+    let sum = xy_under(s);
     if is_zero(sum) {
         return Chromaticity::None;
     }

@@ -7,7 +7,7 @@ use native.Mathlib.Numerals.{add-one}
 use mathlib.Core.List.{List, [], _∷_, _++_, append-assoc}
 use lib.ListN.{length, getD, set, take, drop, take-append-drop, drop-of-length-le}
 use lib.Seq.{sets, drop-cons, drop-drop, take-at, drop-at}
-use Rattle.endian.specs.Bytes.{littleEndian, le16, at16, part, words, bytesOf, Below}
+use Rattle.endian.specs.Bytes.{littleEndian, le16, at16, part, words, bytesOf, AllBelow}
 use Rattle.endian.proofs.Stores.{sets-then}
 use Rattle.endian.proofs.Parts.{length-littleEndian, littleEndian-numberAt, numberAt-behind, numberAt-front, part-join, part-none, tail-below}
 
@@ -74,7 +74,7 @@ bytesOf-split k a xs =
     ∙ ap (λ (r : List ℕ). bytesOf (take k (drop a xs)) ++ bytesOf r) (drop-drop k a xs)
 
 -- numbers that were written read back, and numbers that were read write the bytes that they were read from
-pub words-bytesOf : (xs q : List ℕ) → Below 65536 xs → words (bytesOf xs ++ q) 0 2 (length xs) ≡ xs
+pub words-bytesOf : (xs q : List ℕ) → AllBelow 65536 xs → words (bytesOf xs ++ q) 0 2 (length xs) ≡ xs
 unfolding bytesOf words
 words-bytesOf [] q b = refl
 words-bytesOf (x ∷ xs) q b =
@@ -83,7 +83,7 @@ words-bytesOf (x ∷ xs) q b =
     ap (λ (i : ℕ). words (le16 x ++ r) i 2 (length xs)) (omega (arith, length-littleEndian 2 x)) ∙ words-behind (le16 x) r (length xs) 0 2 ∙ words-bytesOf xs q (tail-below xs b) in
     rw (append-assoc (le16 x) (bytesOf xs) q, numberAt-front 2 x r (b 0), next)
 
-pub bytesOf-words : (s : List ℕ) → Below 256 s → (n at : ℕ) → at + 2 * n ≤ length s → bytesOf (words s at 2 n) ≡ part s at (2 * n)
+pub bytesOf-words : (s : List ℕ) → AllBelow 256 s → (n at : ℕ) → at + 2 * n ≤ length s → bytesOf (words s at 2 n) ≡ part s at (2 * n)
 unfolding bytesOf words
 bytesOf-words s b zero at h = sym (part-none s at)
 bytesOf-words s b (suc n) at h =

@@ -16,9 +16,9 @@ abbrev pub le32 : ℕ → List ℕ
 le32 n = littleEndian 4 n
 
 -- the number that some bytes are, the lowest first
-unfoldable pub number : List ℕ → ℕ
-number [] = 0
-number (b ∷ bs) = b + 256 * number bs
+unfoldable pub fromLittleEndian : List ℕ → ℕ
+fromLittleEndian [] = 0
+fromLittleEndian (b ∷ bs) = b + 256 * fromLittleEndian bs
 
 -- the k bytes from a place on
 unfoldable pub part : List ℕ → ℕ → ℕ → List ℕ
@@ -26,7 +26,7 @@ part s at k = take k (drop at s)
 
 -- the number that the k bytes from a place on are
 unfoldable pub numberAt : ℕ → List ℕ → ℕ → ℕ
-numberAt k s at = number (part s at k)
+numberAt k s at = fromLittleEndian (part s at k)
 
 abbrev pub at16 : List ℕ → ℕ → ℕ
 at16 s at = numberAt 2 s at
@@ -50,5 +50,5 @@ twos (pos n) = n
 twos (negsuc n) = 2 ^ 32 - suc n
 
 -- every number of a list is below m
-abbrev pub Below : ℕ → List ℕ → Type 0
-Below m xs = (i : ℕ) → getD xs i 0 < m
+abbrev pub AllBelow : ℕ → List ℕ → Type 0
+AllBelow m xs = (i : ℕ) → getD xs i 0 < m

@@ -11,22 +11,20 @@ use lib.ListN.{length, drop}
 use lib.Seq.{sets}
 use Rattle.causes.specs.declared.Cause.{Cause}
 use Rattle.causes.specs.declared.Cause.the-variants.{ShortBuffer}
-use Rattle.causes.specs.declared.Checked.{Checked}
 use Rattle.causes.specs.declared.Checked.the-variants.{Clear, Because}
-use Rattle.causes.specs.Causes.{causeNumber}
-use Rattle.causes.specs.Checks.{check, firstOf, unless}
-use Rattle.causes.proofs.Checks.{fires, passes, ends, refuses, clear-head, clear-tail, first-because, first-clear}
+use Rattle.causes.specs.Causes.{causeNumber, accepted, refused}
+use Rattle.causes.specs.Checks.{check, firstOf}
+use Rattle.causes.proofs.Checks.{fires, passes, ends, refuses, clear-head, clear-tail, first-because, first-clear, numbered-refused, numbered-accepted}
 use Rattle.cie.specs.declared.Colour.{Colour}
+use Rattle.cie.specs.Lights.{lightTables}
 use Rattle.cie.specs.Sizes.{Sized}
 use Rattle.cie.proofs.RowSums.{at-most-twice}
 use Rattle.cie.proofs.Sizes.{colour-sized}
-use Rattle.colour.specs.Conditions.{lightTables}
 use Rattle.colour.proofs.Preparing.{sound-light}
 use Rattle.endian.specs.Bytes.{littleEndian, le32, twos}
 use Rattle.endian.proofs.Parts.{length-littleEndian}
 use Rattle.endian.proofs.Stores.{sets-then, sets-front}
-use Rattle.host.specs.declared.Coloured.the-variants.{Whole, Refused}
-use Rattle.host.specs.Host.{readingsOf, answerLength, answerOf, colourChecks, hostChecks, lightColour, colouredOf, answered, bufferAfter}
+use Rattle.host.specs.Host.{hostReadings, answerLength, answerBytes, colourChecks, hostChecks, lightColour, colouredOf, answered, bufferAfter}
 
 -- stores
 pub pair-put : (d : List ℕ) (at : ℕ) (p q : ℤ) {e g : List ℕ} → e ≡ sets d at (le32 (twos p)) → g ≡ sets e (at + 4) (le32 (twos q))
@@ -34,57 +32,48 @@ pub pair-put : (d : List ℕ) (at : ℕ) (p q : ℤ) {e g : List ℕ} → e ≡ 
 pair-put d at p q h k =
     k ∙ ap (λ (l : List ℕ). sets l (at + 4) (le32 (twos q))) h ∙ sets-then d at 4 (le32 (twos p)) (le32 (twos q)) (length-littleEndian 4 (twos p))
 
-length-answer : (c : Colour) → length (answerOf c) ≡ answerLength
-unfolding answerOf littleEndian
+length-answer : (c : Colour) → length (answerBytes c) ≡ answerLength
+unfolding answerBytes littleEndian
 length-answer c = refl
 
 stores : (d : List ℕ) (c : Colour)
     → sets (sets (sets d 0 (le32 (twos (pos (c .l))))) 4 (le32 (twos (c .a)) ++ le32 (twos (c .b)))) 12 (le32 (twos (c .u)) ++ le32 (twos (c .v)))
-    ≡ sets d 0 (answerOf c)
-unfolding answerOf littleEndian
+    ≡ sets d 0 (answerBytes c)
+unfolding answerBytes littleEndian
 stores d c = refl
 
 pub answer-put : (d : List ℕ) (c : Colour) {l a b u v : ℤ} {e f g : List ℕ} → l ≡ pos (c .l) → a ≡ c .a → b ≡ c .b → u ≡ c .u → v ≡ c .v
     → e ≡ sets d 0 (le32 (twos l)) → f ≡ sets e 4 (le32 (twos a) ++ le32 (twos b)) → g ≡ sets f 12 (le32 (twos u) ++ le32 (twos v))
-    → g ≡ sets d 0 (answerOf c)
+    → g ≡ sets d 0 (answerBytes c)
 answer-put d c el ea eb eu ev p₁ p₂ p₃ = p₃ ∙ rw (p₂, p₁, el, ea, eb, eu, ev) (stores d c)
 
 -- what was found says what its checks found
-by-refused : (t : Checked) (k : Colour) (c : Cause) → Refused c ≡ unless t Refused (Whole k) → t ≡ Because c
-unfolding unless
-by-refused Clear k c e = cc
-by-refused (Because d) k c e = cc
-
-by-whole : (t : Checked) (k c : Colour) → Whole c ≡ unless t Refused (Whole k) → (t ≡ Clear) × (c ≡ k)
-unfolding unless
-by-whole Clear k c e = (refl, cc)
-by-whole (Because d) k c e = (cc, cc)
-
 module _ (light : ℕ) (bytes : List ℕ) where
-  found-because : (c : Cause) → Refused c ≡ colouredOf light bytes → firstOf (colourChecks light bytes) ≡ Because c
+  found-because : (n : ℕ) → refused n ≡ colouredOf light bytes → (c : Cause) × (firstOf (colourChecks light bytes) ≡ Because c) × (causeNumber c ≡ n)
   unfolding colouredOf
-  found-because c = by-refused (firstOf (colourChecks light bytes)) (lightColour light (readingsOf bytes)) c
+  found-because n e = numbered-refused (firstOf (colourChecks light bytes)) (lightColour light (hostReadings bytes)) n (sym e)
 
-  found-colour : (c : Colour) → Whole c ≡ colouredOf light bytes → (firstOf (colourChecks light bytes) ≡ Clear) × (c ≡ lightColour light (readingsOf bytes))
+  found-colour : (c : Colour) → accepted c ≡ colouredOf light bytes → (firstOf (colourChecks light bytes) ≡ Clear) × (c ≡ lightColour light (hostReadings bytes))
   unfolding colouredOf
-  found-colour c = by-whole (firstOf (colourChecks light bytes)) (lightColour light (readingsOf bytes)) c
+  found-colour c e = numbered-accepted (firstOf (colourChecks light bytes)) (lightColour light (hostReadings bytes)) c (sym e)
 
-  pub found-sized : (c : Colour) → Whole c ≡ colouredOf light bytes → Sized c
+  pub found-sized : (c : Colour) → accepted c ≡ colouredOf light bytes → Sized c
   unfolding lightColour
   found-sized c e =
       let f = found-colour c e in
       let fair = clear-head _ _ _ (clear-tail _ _ _ (clear-tail _ _ _ (f .0))) in
-      subst Sized (sym (f .1)) (colour-sized (sound-light light .white) (at-most-twice (lightTables light) (readingsOf bytes) fair))
+      subst Sized (sym (f .1)) (colour-sized (sound-light light .white) (at-most-twice (lightTables light) (hostReadings bytes) fair))
 
   -- the returns
   module _ (b : List ℕ) where
-    pub refused : (c : Cause) → Refused c ≡ colouredOf light bytes → (causeNumber c ≡ answered light bytes (length b)) × (b ≡ bufferAfter light bytes b)
+    pub no-colour : (n : ℕ) → refused n ≡ colouredOf light bytes → (n ≡ answered light bytes (length b)) × (b ≡ bufferAfter light bytes b)
     unfolding answered bufferAfter
-    refused c e =
-        let f = first-because (colourChecks light bytes) _ c (found-because c e) in
-        (sym (refuses _ _ _ c f), sym (refuses _ _ _ c f))
+    no-colour n e =
+        let w = found-because n e in
+        let f = first-because (colourChecks light bytes) _ (w .0) (w .1) in
+        (sym (refuses _ _ _ (w .0) f ∙ w .2), sym (refuses _ _ _ (w .0) f))
 
-    module _ (c : Colour) (e : Whole c ≡ colouredOf light bytes) where
+    module _ (c : Colour) (e : accepted c ≡ colouredOf light bytes) where
       rest : firstOf (hostChecks light bytes (length b)) ≡ firstOf (check (ltb (length b) answerLength) ShortBuffer ∷ [])
       rest = first-clear (colourChecks light bytes) _ (found-colour c e .0)
 
@@ -92,10 +81,10 @@ module _ (light : ℕ) (bytes : List ℕ) where
       unfolding answered bufferAfter
       no-room h = rw rest (sym (fires _ _ _ _ _ (lt-ltb _ _ h)), sym (fires _ _ _ _ _ (lt-ltb _ _ h)))
 
-      pub written : answerLength ≤ length b → {g : List ℕ} → g ≡ sets b 0 (answerOf c) → (_≡_ {A = ℕ} 0 (answered light bytes (length b))) × (g ≡ bufferAfter light bytes b)
+      pub written : answerLength ≤ length b → {g : List ℕ} → g ≡ sets b 0 (answerBytes c) → (_≡_ {A = ℕ} 0 (answered light bytes (length b))) × (g ≡ bufferAfter light bytes b)
       unfolding answered bufferAfter
       written h {g} p =
-          let whole : g ≡ answerOf (lightColour light (readingsOf bytes)) ++ drop answerLength b =
-          p ∙ sets-front b (answerOf c) (omega (arith, length-answer c)) ∙ ap (λ (k : ℕ). answerOf c ++ drop k b) (length-answer c)
-          ∙ ap (λ (k : Colour). answerOf k ++ drop answerLength b) (found-colour c e .1) in
+          let whole : g ≡ answerBytes (lightColour light (hostReadings bytes)) ++ drop answerLength b =
+          p ∙ sets-front b (answerBytes c) (omega (arith, length-answer c)) ∙ ap (λ (k : ℕ). answerBytes c ++ drop k b) (length-answer c)
+          ∙ ap (λ (k : Colour). answerBytes k ++ drop answerLength b) (found-colour c e .1) in
           rw rest (sym (passes _ _ _ _ _ (le-ltb _ _ h) ∙ ends _ _), whole ∙ sym (passes _ _ _ _ _ (le-ltb _ _ h) ∙ ends _ _))

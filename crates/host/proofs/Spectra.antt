@@ -10,71 +10,79 @@ use lib.ListN.{length}
 use Rattle.causes.specs.declared.Cause.{Cause}
 use Rattle.causes.specs.declared.Cause.the-variants.{ShortTable, OverBright}
 use Rattle.causes.specs.declared.Checked.the-variants.{Clear, Because}
+use Rattle.causes.specs.Causes.{causeNumber, accepted, refused}
 use Rattle.causes.specs.Checks.{firstOf}
 use Rattle.causes.proofs.Checks.{fires, passes, ends, refuses, clear-head, clear-tail, first-because}
 use Rattle.cie.specs.declared.Sums.{Sums}
 use Rattle.cie.specs.declared.Colour.{Colour}
 use Rattle.cie.specs.Scales.{rows, readingLimit, anyAbove}
 use Rattle.cie.specs.Sums.{whiteOf, AtMostTwice}
+use Rattle.cie.specs.Lights.{lightA, lightD65, lightTables}
 use Rattle.cie.specs.Colour.{colourOf}
 use Rattle.colour.specs.declared.conditions.Conditions.{Conditions}
 use Rattle.colour.specs.declared.conditions.Prepared.{Prepared}
 use Rattle.colour.specs.declared.measure.Measured.{Measured}
 use Rattle.colour.specs.declared.measure.Measured.the-variants as measured
-use Rattle.colour.specs.Conditions.{lightA, lightD65, lightChecks, lightTables, conditionsOf, preparedLight, Sound}
+use Rattle.colour.specs.Conditions.{lightChecks, conditionsOf, preparedLight, Sound, Prepares}
 use Rattle.colour.specs.Colours.{colourUnder}
-use Rattle.colour.specs.Measure.{measuredBy}
+use Rattle.colour.specs.Measure.{measureAnswer, measuredBy}
 use Rattle.colour.proofs.Dots.{sums-same}
-use Rattle.colour.proofs.Preparing.{opened-because, opened-clear}
+use Rattle.colour.proofs.Preparing.{prepared-because, prepared-clear}
 use Rattle.colour.proofs.Measuring.{measured-refused, measured-whole, measured-lit, spectrum-of}
-use Rattle.host.specs.declared.Coloured.the-variants.{Whole, Refused}
-use Rattle.host.specs.Host.{spectrumLength, readingsOf, lightColour, colouredOf}
+use Rattle.host.specs.Host.{spectrumLength, hostReadings, lightColour, colouredOf}
 
 -- what measuring 81 readings says: they are over-bright, or their sums are at most twice the white's
-module _ (k : Conditions) (r : List ℕ) where
-  pub over-bright : {m : Measured} (c : Cause) → length r ≡ rows → m ≡ measuredBy (k .x) (k .y) (k .z) r → m ≡ measured.Refused c → anyAbove readingLimit r ≡ true
+module _ (k : Conditions) (r : List ℕ) {m : Measured} (q : measureAnswer m ≡ measuredBy (k .x) (k .y) (k .z) r) where
+  pub over-bright : {c : Cause} → length r ≡ rows → m ≡ measured.Refused c → anyAbove readingLimit r ≡ true
   unfolding firstOf
-  over-bright c l q e = go (anyAbove readingLimit r) (rw (eq-eqb (length r) rows l) at (measured-refused (k .x) (k .y) (k .z) r c (sym q ∙ e)))
+  over-bright l e =
+      let w = measured-refused (k .x) (k .y) (k .z) r q e in
+      go (anyAbove readingLimit r) (w .0) (rw (eq-eqb (length r) rows l) at (w .1))
     where
-      go : (b : Bool) → cond b (Because OverBright) Clear ≡ Because c → b ≡ true
-      go true h = refl
-      go false h = cc
+      go : (b : Bool) (d : Cause) → cond b (Because OverBright) Clear ≡ Because d → b ≡ true
+      go true d h = refl
+      go false d h = cc
 
-  pub sums-lit : {m : Measured} {s : Sums} → Sound k → m ≡ measuredBy (k .x) (k .y) (k .z) r → m ≡ measured.Whole s → AtMostTwice (k .white .sums) s
-  sums-lit {s = s} h q e =
-      let w = measured-whole (k .x) (k .y) (k .z) r s (sym q ∙ e) in
+  pub sums-lit : {s : Sums} → Sound k → m ≡ measured.Whole s → AtMostTwice (k .white .sums) s
+  sums-lit h e =
+      let w = measured-whole (k .x) (k .y) (k .z) r q e in
       subst (AtMostTwice (k .white .sums)) (sym (w .1)) (measured-lit {c = k} h (spectrum-of r (w .0)))
 
-abbrev dark : ℕ → Bool
-dark light = not (eqb light lightA || eqb light lightD65)
+abbrev unknown : ℕ → Bool
+unknown light = not (eqb light lightA || eqb light lightD65)
 
 -- what a light's opening says of its check
-module _ (light : ℕ) (p : Prepared) (e : p ≡ preparedLight light) where
-  pub lit : p .checked ≡ Clear → dark light ≡ false
-  lit h = clear-head _ _ _ (opened-clear light p e h .0)
+module _ (light : ℕ) (p : Prepared) (e : Prepares (preparedLight light) p) where
+  pub opened : p .checked ≡ Clear → (firstOf (lightChecks light) ≡ Clear) × (p .conditions ≡ conditionsOf (lightTables light))
+  opened = prepared-clear (firstOf (lightChecks light)) (conditionsOf (lightTables light)) e
 
-  pub refused-light : (bytes : List ℕ) (c : Cause) → p .checked ≡ Because c → Refused c ≡ colouredOf light bytes
+  pub known : p .checked ≡ Clear → unknown light ≡ false
+  known h = clear-head _ _ _ (opened h .0)
+
+  pub refused-light : (bytes : List ℕ) (c : Cause) → p .checked ≡ Because c → refused (causeNumber c) ≡ colouredOf light bytes
   unfolding colouredOf
-  refused-light bytes c h = sym (refuses _ _ _ c (first-because (lightChecks light) _ c (opened-because light p e c h)))
+  refused-light bytes c h =
+      let w = prepared-because (firstOf (lightChecks light)) (conditionsOf (lightTables light)) e h in
+      sym (refuses _ _ _ (w .0) (first-because (lightChecks light) _ (w .0) (w .1)) ∙ ap refused (w .2))
 
 -- the other returns, by the tests that led there
-module _ (light : ℕ) (bytes : List ℕ) (l : dark light ≡ false) where
-  pub refused-short : (length bytes ≡ spectrumLength → ⊥) → Refused ShortTable ≡ colouredOf light bytes
+module _ (light : ℕ) (bytes : List ℕ) (l : unknown light ≡ false) where
+  pub refused-short : (length bytes ≡ spectrumLength → ⊥) → refused (causeNumber ShortTable) ≡ colouredOf light bytes
   unfolding colouredOf
   refused-short h = sym (passes _ _ _ _ _ l ∙ fires _ _ _ _ _ (ap not (ne-eqb _ _ h)))
 
-  module _ (h : length bytes ≡ spectrumLength) {r : List ℕ} (q : r ≡ readingsOf bytes) where
-    pub refused-bright : anyAbove readingLimit r ≡ true → Refused OverBright ≡ colouredOf light bytes
+  module _ (h : length bytes ≡ spectrumLength) {r : List ℕ} (q : r ≡ hostReadings bytes) where
+    pub refused-bright : anyAbove readingLimit r ≡ true → refused (causeNumber OverBright) ≡ colouredOf light bytes
     unfolding colouredOf
     refused-bright b = sym (passes _ _ _ _ _ l ∙ passes _ _ _ _ _ (ap not (eq-eqb _ _ h)) ∙ fires _ _ _ _ _ (ap (anyAbove readingLimit) (sym q) ∙ b))
 
     pub whole : {k : Conditions} {m : Measured} {s : Sums} {c : Colour} → k ≡ conditionsOf (lightTables light)
-        → m ≡ measuredBy (k .x) (k .y) (k .z) r → m ≡ measured.Whole s → c ≡ colourOf (k .white .sums) s → Whole c ≡ colouredOf light bytes
+        → measureAnswer m ≡ measuredBy (k .x) (k .y) (k .z) r → m ≡ measured.Whole s → c ≡ colourOf (k .white .sums) s → accepted c ≡ colouredOf light bytes
     unfolding colouredOf lightColour
-    whole {k} {s = s} {c = c} e a m b =
-        let w = measured-whole (k .x) (k .y) (k .z) r s (sym a ∙ m) in
+    whole {k} {c = c} e a m b =
+        let w = measured-whole (k .x) (k .y) (k .z) r a m in
         let fair = ap (anyAbove readingLimit) (sym q) ∙ clear-head _ _ _ (clear-tail _ _ _ (w .0)) in
-        let colour : c ≡ lightColour light (readingsOf bytes) =
+        let colour : c ≡ lightColour light (hostReadings bytes) =
         b ∙ ap (colourOf (k .white .sums)) (w .1) ∙ ap (λ (x : Conditions). colourUnder x r) e
         ∙ ap (colourOf (whiteOf (lightTables light))) (sums-same (lightTables light) r) ∙ ap (lightColour light) q in
-        ap Whole colour ∙ sym (passes _ _ _ _ _ l ∙ passes _ _ _ _ _ (ap not (eq-eqb _ _ h)) ∙ passes _ _ _ _ _ fair ∙ ends _ _)
+        ap accepted colour ∙ sym (passes _ _ _ _ _ l ∙ passes _ _ _ _ _ (ap not (eq-eqb _ _ h)) ∙ passes _ _ _ _ _ fair ∙ ends _ _)

@@ -6,12 +6,12 @@ use lib.ListN.{length, drop}
 use lib.IntN.{pos}
 use lib.Dec.{ltb, eqb}
 use Rattle.causes.specs.declared.Cause.the-variants.{ShortTable, OverBright, ShortBuffer, NoSuchLight}
-use Rattle.causes.specs.Causes.{causeNumber}
-use Rattle.causes.specs.Checks.{Check, check, firstOf, unless}
+use Rattle.causes.specs.Causes.{causeNumber, Numbered, accepted, refused}
+use Rattle.causes.specs.Checks.{Check, check, firstOf, unless, numbered}
 use Rattle.cie.specs.declared.Colour.{Colour}
 use Rattle.cie.specs.Scales.{rows, readingLimit, anyAbove}
+use Rattle.cie.specs.Lights.{lightA, lightD65, lightTables}
 use Rattle.cie.specs.Colour.{colourAt}
-use Rattle.colour.specs.Conditions.{lightA, lightD65, lightTables}
 use Rattle.endian.specs.Bytes.{le32, words, twos}
 use Rattle.host.specs.declared.Coloured.{Coloured}
 use Rattle.host.specs.declared.Coloured.the-variants.{Whole, Refused}
@@ -20,22 +20,22 @@ use Rattle.host.specs.declared.Coloured.the-variants.{Whole, Refused}
 abbrev pub spectrumLength : ℕ
 spectrumLength = 2 * rows
 
-abbrev pub readingsOf : List ℕ → List ℕ
-readingsOf bytes = words bytes 0 2 rows
+abbrev pub hostReadings : List ℕ → List ℕ
+hostReadings bytes = words bytes 0 2 rows
 
 -- "L, a, b, u, v as five signed 4-byte numbers, little-endian": 20 bytes
 abbrev pub answerLength : ℕ
 answerLength = 20
 
-unfoldable pub answerOf : Colour → List ℕ
-answerOf c = le32 (twos (pos (c .l))) ++ le32 (twos (c .a)) ++ le32 (twos (c .b)) ++ le32 (twos (c .u)) ++ le32 (twos (c .v))
+unfoldable pub answerBytes : Colour → List ℕ
+answerBytes c = le32 (twos (pos (c .l))) ++ le32 (twos (c .a)) ++ le32 (twos (c .b)) ++ le32 (twos (c .u)) ++ le32 (twos (c .v))
 
 -- "or a cause (16, 1, 2, 15)": those of the light and the spectrum, and then that of the buffer
 abbrev pub colourChecks : ℕ → List ℕ → List Check
 colourChecks light bytes =
     check (not (eqb light lightA || eqb light lightD65)) NoSuchLight
     ∷ check (not (eqb (length bytes) spectrumLength)) ShortTable
-    ∷ check (anyAbove readingLimit (readingsOf bytes)) OverBright
+    ∷ check (anyAbove readingLimit (hostReadings bytes)) OverBright
     ∷ []
 
 abbrev pub hostChecks : ℕ → List ℕ → ℕ → List Check
@@ -45,8 +45,13 @@ hostChecks light bytes room = colourChecks light bytes ++ (check (ltb room answe
 unfoldable pub lightColour : ℕ → List ℕ → Colour
 lightColour light readings = colourAt (lightTables light) readings
 
-unfoldable pub colouredOf : ℕ → List ℕ → Coloured
-colouredOf light bytes = unless (firstOf (colourChecks light bytes)) Refused (Whole (lightColour light (readingsOf bytes)))
+-- what is found before the buffer is looked at, in the paper's numbers: the colour, or the number of the cause
+abbrev pub colouredAnswer : Coloured → Numbered Colour
+colouredAnswer (Whole colour) = accepted colour
+colouredAnswer (Refused cause) = refused (causeNumber cause)
+
+unfoldable pub colouredOf : ℕ → List ℕ → Numbered Colour
+colouredOf light bytes = numbered (firstOf (colourChecks light bytes)) (lightColour light (hostReadings bytes))
 
 -- "gets 0 and L, a, b, u, v .., or a cause"
 unfoldable pub answered : ℕ → List ℕ → ℕ → ℕ
@@ -56,4 +61,4 @@ answered light bytes room = unless (firstOf (hostChecks light bytes room)) cause
 unfoldable pub bufferAfter : ℕ → List ℕ → List ℕ → List ℕ
 bufferAfter light bytes buffer =
     unless (firstOf (hostChecks light bytes (length buffer))) (λ _. buffer)
-    (answerOf (lightColour light (readingsOf bytes)) ++ drop answerLength buffer)
+    (answerBytes (lightColour light (hostReadings bytes)) ++ drop answerLength buffer)

@@ -10,7 +10,7 @@ ghost use lib.ListN.{length};
 ghost use lib.Seq.{sets};
 ghost use Rattle.cie.specs.Sizes.{Sized};
 ghost use Rattle.endian.specs.Bytes.{le32, twos};
-ghost use Rattle.host.specs.Host.{answerLength, answerOf, colouredOf, answered, bufferAfter};
+ghost use Rattle.host.specs.Host.{answerLength, answerBytes, colouredAnswer, colouredOf, answered, bufferAfter};
 
 // The bytes of a spectrum, and of an answer.
 const SPECTRUM: usize = 162;
@@ -25,7 +25,7 @@ enum Coloured {
 
 // The colour under a light of a spectrum held in bytes.
 fn colour_in_light(light: u32, spectrum: &[u8]) -> Coloured
-    ensures { λ r. ⌜ r ≡ colouredOf light (now (spectrum .entry)) ⌝ }
+    ensures { λ r. ⌜ colouredAnswer r ≡ colouredOf light (now (spectrum .entry)) ⌝ }
 {
     let opened = colour::conditions::prepare_light(light);
     let checked = opened.checked;
@@ -58,7 +58,7 @@ fn put_pair(out: &mut [u8], at: usize, p: i32, q: i32)
 // L, a, b, u and v, 4 bytes each.
 fn put_answer(out: &mut [u8], colour: Colour)
     requires { ⌜ Sized colour × (answerLength ≤ length (now out)) ⌝ }
-    ensures { λ _. ⌜ now (out .exit) ≡ sets (now (out .entry)) 0 (answerOf colour) ⌝ }
+    ensures { λ _. ⌜ now (out .exit) ≡ sets (now (out .entry)) 0 (answerBytes colour) ⌝ }
 {
     endian::write_i32(out, 0, colour.l as i32);
     put_pair(out, 4, colour.a, colour.b);

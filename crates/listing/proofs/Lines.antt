@@ -14,12 +14,13 @@ use Rattle.causes.proofs.Checks.{accepts}
 use Rattle.cie.specs.declared.Colour.{Colour}
 use Rattle.cie.specs.Scales.{rows, readingLimit, anyAbove}
 use Rattle.cie.specs.Sums.{whiteOf}
+use Rattle.cie.specs.Lights.{lightD65, lightTables}
 use Rattle.cie.specs.Colour.{colourOf}
 use Rattle.cie.proofs.Scales.{or-left, or-right}
 use Rattle.colour.specs.declared.conditions.Conditions.{Conditions}
 use Rattle.colour.specs.declared.conditions.Prepared.{Prepared}
 use Rattle.colour.specs.Weights.{Spectrum}
-use Rattle.colour.specs.Conditions.{lightD65, lightTables, conditionsOf, preparedLight}
+use Rattle.colour.specs.Conditions.{conditionsOf, conditionsIn, preparedLight, Prepares}
 use Rattle.colour.specs.Colours.{colourUnder}
 use Rattle.colour.proofs.Dots.{sums-same}
 use Rattle.colour.proofs.Preparing.{light-d65}
@@ -58,9 +59,8 @@ module _ (ns rs : List ℕ) (i : ℕ) where
   lines-none h = rw (drop-of-length-le ns h)
 
 -- the opened light, and a colour under it
-pub opened-d65 : {p : Prepared} → p ≡ preparedLight lightD65 → p .conditions ≡ conditionsOf (lightTables lightD65)
-unfolding preparedLight
-opened-d65 e = ap (λ (q : Prepared). q .conditions) (e ∙ accepts _ _ _ (light-d65 lightD65 (λ n. omega arith) refl .0))
+pub opened-d65 : {p : Prepared} → Prepares (preparedLight lightD65) p → p .conditions ≡ conditionsOf (lightTables lightD65)
+opened-d65 e = e .beside ∙ ap conditionsIn (accepts _ _ _ (light-d65 lightD65 (λ n. omega arith) refl .0))
 
 pub colour-d65 : {k : Conditions} (r : List ℕ) {c : Colour} → k ≡ conditionsOf (lightTables lightD65) → c ≡ colourUnder k r → c ≡ shadeColour r
 unfolding shadeColour

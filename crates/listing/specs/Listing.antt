@@ -7,8 +7,8 @@ use Rattle.causes.specs.declared.Cause.the-variants.{NotABook}
 use Rattle.causes.specs.Causes.{causeNumber}
 use Rattle.cie.specs.declared.Colour.{Colour}
 use Rattle.cie.specs.Scales.{rows}
+use Rattle.cie.specs.Lights.{lightD65, lightTables}
 use Rattle.cie.specs.Colour.{colourAt}
-use Rattle.colour.specs.Conditions.{lightD65, lightTables}
 use Rattle.book.specs.Book.{isBook, numbersOf, readingsOf, spectrumOf}
 use Rattle.text.specs.Text.{decimal, signed}
 

@@ -10,7 +10,7 @@ use Rattle.session.specs.Call.{Call, open-light, set-standard, set-tolerance, t
 use Rattle.session.specs.Outcome.{Outcome}
 use Rattle.session.specs.Served.{Reply, served, freshSession}
 use Rattle.session.specs.Meets.{Meets}
-use Rattle.probe.specs.Probe.{after, sessionFor, afterTrials, passedIn, passes}
+use Rattle.probe.specs.Probe.{after, sessionFor, afterTrials, passedIn, passCount}
 
 pub left : {s : Session} {c : Call} {r : Served} → Meets s c r → r .session ≡ after s c
 unfolding after
@@ -39,7 +39,7 @@ none s readings n e = rw e refl
 
 -- the report after the trials
 pub counted : (light : ℕ) (standard readings : List ℕ) (amount count : ℕ) {s t : Session} {o : Outcome} → s ≡ sessionFor light standard amount
-    → t ≡ afterTrials s readings count → o ≡ served t report .outcome → passedIn o ≡ passes light standard readings amount count
-unfolding passes
+    → t ≡ afterTrials s readings count → o ≡ served t report .outcome → passedIn o ≡ passCount light standard readings amount count
+unfolding passCount
 counted light standard readings amount count e e₁ e₂ =
     ap passedIn (e₂ ∙ ap (λ (x : Session). served x report .outcome) (e₁ ∙ ap (λ (x : Session). afterTrials x readings count) e))

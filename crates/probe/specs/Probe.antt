@@ -9,13 +9,13 @@ use Rattle.session.specs.Call.{Call, open-light, set-standard, set-tolerance, t
 use Rattle.session.specs.Outcome.{Outcome, accepted, coloured, tried, counted, refused}
 use Rattle.session.specs.Served.{served, freshSession}
 
--- the total, or 2^32 and the cause's number
-abbrev pub writeCode : Numbered → ℕ
-writeCode (causes.accepted n) = n
-writeCode (causes.refused cause) = 2 ^ 32 + cause
+-- the count, or 2^32 and the cause's number
+abbrev pub countCode : Numbered ℕ → ℕ
+countCode (causes.accepted n) = n
+countCode (causes.refused cause) = 2 ^ 32 + cause
 
 -- 0, or the cause's number
-abbrev pub readCode : Numbered → ℕ
+abbrev pub readCode : Numbered ℕ → ℕ
 readCode (causes.accepted n) = 0
 readCode (causes.refused cause) = cause
 
@@ -37,9 +37,9 @@ abbrev pub passedIn : Outcome → ℕ
 passedIn accepted = 0
 passedIn (coloured colour) = 0
 passedIn (tried colour e verdict) = 0
-passedIn (counted tallies) = tallies .passed
+passedIn (counted counts) = counts .passed
 passedIn (refused cause) = 0
 
 -- the passes among a number of trials of one spectrum, as the report after them counts
-unfoldable pub passes : ℕ → List ℕ → List ℕ → ℕ → ℕ → ℕ
-passes light standard readings amount count = passedIn (served (afterTrials (sessionFor light standard amount) readings count) report .outcome)
+unfoldable pub passCount : ℕ → List ℕ → List ℕ → ℕ → ℕ → ℕ
+passCount light standard readings amount count = passedIn (served (afterTrials (sessionFor light standard amount) readings count) report .outcome)

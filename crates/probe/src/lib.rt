@@ -1,24 +1,25 @@
-// The book's calls and a run of trials, for tests and benchmarks in C: no part of the product.
+// The book's calls, the run of a list of calls and a run of trials, for tests and benchmarks in C: no part of the product.
 ghost use mathlib.Core.Path.{_≡_};
 ghost use lib.ListN.{length};
 ghost use Rattle.cie.specs.Scales.{rows};
-ghost use Rattle.book.specs.Calls.{writeAnswer, written, bufferAfterWrite, readAnswer, found, placesAfterRead};
-ghost use Rattle.session.specs.Outcome.{outcomeOf};
-ghost use Rattle.session.specs.Served.{Valid};
-ghost use Rattle.probe.specs.Probe.{writeCode, readCode, passedIn, afterTrials, sessionFor, passes};
+ghost use Rattle.book.specs.Calls.{written, bufferAfterWrite, found, placesAfterRead};
+ghost use Rattle.calls.specs.Run.{ran, answersAfter};
+ghost use Rattle.session.specs.Served.{outcomeOf, Valid};
+ghost use Rattle.probe.specs.Probe.{countCode, readCode, passedIn, afterTrials, sessionFor, passCount};
 use book::Found;
 use book::Written;
+use calls::Ran;
 use cie::Space;
 use session::Answer;
 use session::Session;
 
-// A refused write answers the cause's number above this: no total is as large.
+// A refused write or run answers the cause's number above this: no book is as long, and no list of a test.
 const REFUSED: u64 = 4294967296;
 
 // Writes a book, and answers its length, or 2^32 and the cause's number.
 #[no_mangle]
 pub extern "C" fn probe_write(numbers: &[u16], spectra: &[u16], buffer: &mut [u8]) -> u64
-    ensures { λ r. ⌜ r ≡ writeCode (writeAnswer (written rows (now (numbers .entry)) (now (spectra .entry)) (length (now (buffer .entry))))) ⌝ }
+    ensures { λ r. ⌜ r ≡ countCode (written rows (now (numbers .entry)) (now (spectra .entry)) (length (now (buffer .entry)))) ⌝ }
     ensures { λ _. ⌜ now (buffer .exit) ≡ bufferAfterWrite rows (now (numbers .entry)) (now (spectra .entry)) (now (buffer .entry)) ⌝ }
 {
     match book::write(numbers, spectra, buffer) {
@@ -30,12 +31,29 @@ pub extern "C" fn probe_write(numbers: &[u16], spectra: &[u16], buffer: &mut [u8
 // Reads a shade of a book, and answers 0, or the cause's number.
 #[no_mangle]
 pub extern "C" fn probe_read(book: &[u8], number: u16, places: &mut [u16]) -> u32
-    ensures { λ r. ⌜ r ≡ readCode (readAnswer (found rows (now (book .entry)) number (length (now (places .entry))))) ⌝ }
+    ensures { λ r. ⌜ r ≡ readCode (found rows (now (book .entry)) number (length (now (places .entry)))) ⌝ }
     ensures { λ _. ⌜ now (places .exit) ≡ placesAfterRead rows (now (book .entry)) number (now (places .entry)) ⌝ }
 {
     match book::read(book, number, places) {
         Found::Read => 0,
         Found::Refused(cause) => causes::number(cause),
+    }
+}
+
+// Runs a list of calls, and answers how many were answered, or 2^32 and the cause's number.
+#[no_mangle]
+pub extern "C" fn probe_run(
+    records: &[u32],
+    tables: &[u32],
+    spectra: &[u16],
+    buffer: &mut [u32],
+) -> u64
+    ensures { λ r. ⌜ r ≡ countCode (ran (now (records .entry)) (length (now (buffer .entry)))) ⌝ }
+    ensures { λ _. ⌜ now (buffer .exit) ≡ answersAfter (now (records .entry)) (now (tables .entry)) (now (spectra .entry)) (now (buffer .entry)) ⌝ }
+{
+    match calls::run(records, tables, spectra, buffer) {
+        Ran::Answered(count) => count as u64,
+        Ran::Refused(cause) => REFUSED + causes::number(cause) as u64,
     }
 }
 
@@ -86,7 +104,7 @@ pub extern "C" fn probe_trials(
     amount: u32,
     count: u32,
 ) -> u32
-    ensures { λ r. ⌜ r ≡ passes light (now (standard .entry)) (now (trial .entry)) amount count ⌝ }
+    ensures { λ r. ⌜ r ≡ passCount light (now (standard .entry)) (now (trial .entry)) amount count ⌝ }
 {
     let ready = session_for(light, standard, amount);
     let last = after_trials(ready, trial, count);

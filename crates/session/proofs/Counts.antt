@@ -1,6 +1,7 @@
--- The ledger's counts are those of the verdicts given so far: a call that gives one adds 1 to its count, and no other call changes them.
+-- The ledger's counts are those of the verdicts given so far: a trial that is given one adds 1 to its count, and no other call changes them.
 -- Assumes nothing.
 use mathlib.Core.Path.{_≡_, refl, _∙_, ap}
+use mathlib.Core.Bool.{Bool, false}
 use mathlib.Core.List.{List, _∷_}
 use Prim.Native.Nat.{ℕ}
 use Rattle.causes.proofs.Checks.{either}
@@ -9,60 +10,57 @@ use Rattle.cie.specs.declared.Verdict.{Verdict}
 use Rattle.cie.specs.declared.Verdict.the-variants.{Pass, Fail, OnTheLine}
 use Rattle.cie.specs.Sums.{Tables}
 use Rattle.cie.specs.Colour.{colourAt}
-use Rattle.session.specs.declared.Difference.{Difference}
-use Rattle.session.specs.declared.Judged.{Judged}
-use Rattle.session.specs.declared.Judged.the-variants.{Without, By}
-use Rattle.session.specs.declared.Tallies.{Tallies}
+use Rattle.cie.specs.Verdict.{margin, verdictOf, difference}
 use Rattle.session.specs.Call.{Call, open-tables, open-light, set-standard, set-tolerance, trial, report}
-use Rattle.session.specs.Outcome.{Outcome, accepted, coloured, tried, counted, refused}
-use Rattle.session.specs.Rules.{judgedOf, talliedBy}
-use Rattle.session.specs.Ledger.{Held, none, held, Ledger, Entry, standardAt, countedAt, trialAt, entered}
-use Rattle.session.specs.Claim.{number, verdictsIn}
+use Rattle.session.specs.Outcome.{Amount, VerdictCounts, Outcome, tried}
+use Rattle.session.specs.Ledger.{Held, none, held, Ledger, Entry, standardAt, countedIn, judgedAt, trialAt, entered}
+use Rattle.session.specs.Claim.{Event, event, isPass, isFail, isLine, given, timesGiven, verdictsIn}
 
--- the entry's ledger counts the entry's own verdict with those before
-abbrev CountsAfter : List Outcome → Entry → Type 0
-CountsAfter before q = q .ledger .counts ≡ verdictsIn (q .outcome ∷ before)
+-- after a call the entry's ledger counts the call with those before it
+abbrev CountsAfter : List Event → Call → Entry → Type 0
+CountsAfter before c q = q .ledger .counts ≡ verdictsIn (event c (q .outcome) ∷ before)
 
-one-more : (before : List Outcome) (colour : Colour) (e : Difference) (verdict : Verdict) → talliedBy (verdictsIn before) verdict ≡ verdictsIn (tried colour e verdict ∷ before)
-unfolding number
-one-more before colour e Pass = refl
-one-more before colour e Fail = refl
-one-more before colour e OnTheLine = refl
+-- a call that is given no verdict leaves the counts as they were
+uncounted : (before : List Event) (c : Call) (o : Outcome) → ((p : Verdict → Bool) → given p c o ≡ false) → verdictsIn before ≡ verdictsIn (event c o ∷ before)
+unfolding timesGiven
+uncounted before c o h = rw (h isPass, h isFail, h isLine)
 
-module _ (before : List Outcome) (l : Ledger) (k : l .counts ≡ verdictsIn before) where
-  counts-refused : (n : ℕ) → l .counts ≡ verdictsIn (refused n ∷ before)
-  unfolding number
-  counts-refused n = k
+-- a trial that is given one counts it
+one-more : (before : List Event) (readings : List ℕ) (colour : Colour) (e : Amount) (verdict : Verdict) →
+    countedIn (verdictsIn before) verdict ≡ verdictsIn (event (trial readings) (tried colour e verdict) ∷ before)
+unfolding timesGiven
+one-more before readings colour e Pass = refl
+one-more before readings colour e Fail = refl
+one-more before readings colour e OnTheLine = refl
 
-  counts-accepted : l .counts ≡ verdictsIn (accepted ∷ before)
-  unfolding number
-  counts-accepted = k
+module _ (before : List Event) (l : Ledger) (k : l .counts ≡ verdictsIn before) where
+  -- a call that is no trial, whatever its outcome
+  kept : (c : Call) (o : Outcome) → ((p : Verdict → Bool) → given p c o ≡ false) → l .counts ≡ verdictsIn (event c o ∷ before)
+  kept c o h = k ∙ uncounted before c o h
 
-  counts-coloured : (colour : Colour) → l .counts ≡ verdictsIn (coloured colour ∷ before)
-  unfolding number
-  counts-coloured colour = k
+  at-standard : (t : Held Tables) (readings : List ℕ) → CountsAfter before (set-standard readings) (standardAt l t readings)
+  at-standard none readings = kept _ _ (λ p. refl)
+  at-standard (held t) readings = kept _ _ (λ p. refl)
 
-  counts-report : (t : Tallies) → l .counts ≡ verdictsIn (counted t ∷ before)
-  unfolding number
-  counts-report t = k
+  at-verdict : (a : Amount) (p q : Colour) (readings : List ℕ) → CountsAfter before (trial readings) (judgedAt l a p q)
+  at-verdict a p q readings =
+      let d : ℕ = difference (a .space) p q in
+      let verdict : Verdict = verdictOf (margin (a .space)) d (a .units) in
+      ap (λ (n : VerdictCounts). countedIn n verdict) k ∙ one-more before readings q (record { space = a .space; units = d }) verdict
 
-  at-standard : (t : Held Tables) (readings : List ℕ) → CountsAfter before (standardAt l t readings)
-  at-standard none readings = counts-refused _
-  at-standard (held t) readings = counts-coloured (colourAt t readings)
+  at-trial : (t : Held Tables) (s : Held (List ℕ)) (o : Held Amount) (readings : List ℕ) → CountsAfter before (trial readings) (trialAt l t s o readings)
+  at-trial none s o readings = kept _ _ (λ p. refl)
+  at-trial (held t) none o readings = kept _ _ (λ p. refl)
+  at-trial (held t) (held s) none readings = kept _ _ (λ p. refl)
+  at-trial (held t) (held s) (held a) readings = at-verdict a (colourAt t s) (colourAt t readings) readings
 
-  at-count : (colour : Colour) (j : Judged) → CountsAfter before (countedAt l colour j)
-  at-count colour Without = counts-refused _
-  at-count colour (By e verdict) = ap (λ (t : Tallies). talliedBy t verdict) k ∙ one-more before colour e verdict
-
-  at-trial : (t : Held Tables) (s : Held (List ℕ)) (readings : List ℕ) → CountsAfter before (trialAt l t s readings)
-  at-trial none s readings = counts-refused _
-  at-trial (held t) none readings = counts-refused _
-  at-trial (held t) (held s) readings = at-count (colourAt t readings) (judgedOf (l .tolerance) (colourAt t s) (colourAt t readings))
-
-  pub counts-next : (c : Call) → CountsAfter before (entered l c)
-  counts-next (open-tables t) = either _ (CountsAfter before) _ _ (λ c. counts-refused _) (λ e. counts-accepted)
-  counts-next (open-light light) = either _ (CountsAfter before) _ _ (λ c. counts-refused _) (λ e. counts-accepted)
-  counts-next (set-standard readings) = either _ (CountsAfter before) _ _ (λ c. counts-refused _) (λ e. at-standard (l .conditions) readings)
-  counts-next (set-tolerance space amount) = either _ (CountsAfter before) _ _ (λ c. counts-refused _) (λ e. counts-accepted)
-  counts-next (trial readings) = either _ (CountsAfter before) _ _ (λ c. counts-refused _) (λ e. at-trial (l .conditions) (l .standard) readings)
-  counts-next report = counts-report (l .counts)
+  pub counts-next : (c : Call) → CountsAfter before c (entered l c)
+  counts-next (open-tables t) = either _ (CountsAfter before (open-tables t)) _ _ (λ c. kept _ _ (λ p. refl)) (λ e. kept _ _ (λ p. refl))
+  counts-next (open-light light) = either _ (CountsAfter before (open-light light)) _ _ (λ c. kept _ _ (λ p. refl)) (λ e. kept _ _ (λ p. refl))
+  counts-next (set-standard readings) =
+      either _ (CountsAfter before (set-standard readings)) _ _ (λ c. kept _ _ (λ p. refl)) (λ e. at-standard (l .conditions) readings)
+  counts-next (set-tolerance space amount) =
+      either _ (CountsAfter before (set-tolerance space amount)) _ _ (λ c. kept _ _ (λ p. refl)) (λ e. kept _ _ (λ p. refl))
+  counts-next (trial readings) =
+      either _ (CountsAfter before (trial readings)) _ _ (λ c. kept _ _ (λ p. refl)) (λ e. at-trial (l .conditions) (l .standard) (l .tolerance) readings)
+  counts-next report = kept _ _ (λ p. refl)

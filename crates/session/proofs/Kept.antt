@@ -6,18 +6,14 @@ use Prim.Native.Nat.{ℕ}
 use Rattle.causes.specs.declared.Checked.the-variants.{Clear}
 use Rattle.causes.specs.Checks.{firstOf}
 use Rattle.causes.proofs.Checks.{clear-head, clear-tail, either}
-use Rattle.cie.specs.declared.Colour.{Colour}
 use Rattle.cie.specs.Sums.{Tables, sumsOf, whiteOf, White, AtMostTwice}
-use Rattle.cie.specs.Colour.{colourAt}
 use Rattle.colour.specs.Conditions.{tableChecks}
 use Rattle.cie.proofs.RowSums.{at-most-twice}
 use Rattle.colour.specs.Measure.{spectrumChecks}
 use Rattle.colour.proofs.Preparing.{light-clear}
-use Rattle.session.specs.declared.Judged.{Judged}
-use Rattle.session.specs.declared.Judged.the-variants.{Without, By}
 use Rattle.session.specs.Call.{Call, open-tables, open-light, set-standard, set-tolerance, trial, report}
-use Rattle.session.specs.Rules.{judgedOf}
-use Rattle.session.specs.Ledger.{Held, none, held, Ledger, emptyLedger, Entry, standardAt, countedAt, trialAt, entered}
+use Rattle.session.specs.Outcome.{Amount}
+use Rattle.session.specs.Ledger.{Held, none, held, Ledger, emptyLedger, Entry, standardAt, trialAt, entered}
 
 abbrev pub Proper : Held Tables → Type 0
 Proper none = Unit
@@ -38,14 +34,11 @@ with-standard : (l : Ledger) (t : Held Tables) (readings : List ℕ) → Kept l 
 with-standard l none readings k e = k
 with-standard l (held t) readings k e = record { tables = k .tables; standard = e }
 
-with-count : (l : Ledger) (colour : Colour) (j : Judged) → Kept l → Kept (countedAt l colour j .ledger)
-with-count l colour Without k = k
-with-count l colour (By e verdict) k = record { tables = k .tables; standard = k .standard }
-
-with-trial : (l : Ledger) (t : Held Tables) (s : Held (List ℕ)) (readings : List ℕ) → Kept l → Kept (trialAt l t s readings .ledger)
-with-trial l none s readings k = k
-with-trial l (held t) none readings k = k
-with-trial l (held t) (held s) readings k = with-count l (colourAt t readings) (judgedOf (l .tolerance) (colourAt t s) (colourAt t readings)) k
+with-trial : (l : Ledger) (t : Held Tables) (s : Held (List ℕ)) (o : Held Amount) (readings : List ℕ) → Kept l → Kept (trialAt l t s o readings .ledger)
+with-trial l none s o readings k = k
+with-trial l (held t) none o readings k = k
+with-trial l (held t) (held s) none readings k = k
+with-trial l (held t) (held s) (held a) readings k = record { tables = k .tables; standard = k .standard }
 
 abbrev KeptAfter : Entry → Type 0
 KeptAfter q = Kept (q .ledger)
@@ -56,7 +49,7 @@ kept-next l (open-tables t) k = either _ KeptAfter _ _ (λ c. k) (λ e. record {
 kept-next l (open-light light) k = either _ KeptAfter _ _ (λ c. k) (λ e. record { tables = light-clear light; standard = tt })
 kept-next l (set-standard readings) k = either _ KeptAfter _ _ (λ c. k) (λ e. with-standard l (l .conditions) readings k (clear-tail _ _ _ e))
 kept-next l (set-tolerance space amount) k = either _ KeptAfter _ _ (λ c. k) (λ e. record { tables = k .tables; standard = k .standard })
-kept-next l (trial readings) k = either _ KeptAfter _ _ (λ c. k) (λ e. with-trial l (l .conditions) (l .standard) readings k)
+kept-next l (trial readings) k = either _ KeptAfter _ _ (λ c. k) (λ e. with-trial l (l .conditions) (l .standard) (l .tolerance) readings k)
 kept-next l report k = k
 
 -- what the checks leave: an accepted white, and sums that do not exceed twice its own

@@ -1,6 +1,7 @@
 -- The session is a function of the ledger: each call takes the session of a ledger to the session of the ledger after it, with the ledger's
 -- outcome, since prepared weights give the same sums as the tables. Assumes nothing.
 use mathlib.Core.Path.{_≡_, refl, _∙_, ap}
+use mathlib.Core.Bool.{Bool, true}
 use mathlib.Core.List.{List, [], _∷_}
 use Prim.Native.Nat.{ℕ}
 use Rattle.causes.specs.declared.Cause.{Cause}
@@ -8,22 +9,29 @@ use Rattle.causes.specs.declared.Checked.{Checked}
 use Rattle.causes.specs.declared.Checked.the-variants.{Clear, Because}
 use Rattle.causes.specs.Checks.{firstOf, unless}
 use Rattle.cie.specs.declared.Colour.{Colour}
+use Rattle.cie.specs.declared.Space.{Space}
+use Rattle.cie.specs.declared.Space.the-variants.{Cielab, Cieluv}
+use Rattle.cie.specs.declared.Verdict.{Verdict}
+use Rattle.cie.specs.declared.Verdict.the-variants.{Pass, Fail, OnTheLine}
 use Rattle.cie.specs.Sums.{Tables, whiteOf}
-use Rattle.cie.specs.Colour.{colourOf, colourAt}
+use Rattle.cie.specs.Colour.{colourOf, colourAt, labDifference, luvDifference}
+use Rattle.cie.specs.Verdict.{margin, verdictOf}
 use Rattle.colour.specs.Conditions.{conditionsOf}
 use Rattle.colour.specs.Colours.{colourUnder}
 use Rattle.colour.proofs.Dots.{sums-same}
 use Rattle.session.specs.declared.Tolerance.{Tolerance}
-use Rattle.session.specs.declared.Judged.{Judged}
-use Rattle.session.specs.declared.Judged.the-variants.{Without, By}
+use Rattle.session.specs.declared.Difference.{Difference}
+use Rattle.session.specs.declared.Difference.the-variants as difference
+use Rattle.session.specs.declared.Judged.the-variants.{By}
 use Rattle.session.specs.declared.Tallies.{Tallies}
 use Rattle.session.specs.Call.{Call, open-tables, open-light, set-standard, set-tolerance, trial, report}
-use Rattle.session.specs.Outcome.{Outcome}
-use Rattle.session.specs.Rules.{judgedOf}
-use Rattle.session.specs.Ledger.{Held, none, held, Ledger, emptyLedger, Entry, countedAt, entered, outcomesAt}
-use Rattle.session.specs.Served.{Reply, served, freshSession, standardBy, triedBy}
-use Rattle.session.specs.Meets.{sessionOf}
-use Rattle.session.specs.Claim.{outcomesFrom, Each, done, more}
+use Rattle.session.specs.Outcome.{Amount, VerdictCounts, Outcome, tried}
+use Rattle.session.specs.CallChecks.{trialChecks}
+use Rattle.session.specs.Ledger.{Held, none, held, Ledger, emptyLedger, Entry, countSum, countedIn, countedAt, judgedAt, entered, outcomesAt}
+use Rattle.session.specs.Rules.{toleranceOf, hasTolerance, judgedOf, talliedBy}
+use Rattle.session.specs.Served.{amountOf, Reply, served, freshSession, refusedBy, standardBy, withTallies, triedBy}
+use Rattle.session.specs.Meets.{talliesOf, sessionOf}
+use Rattle.session.specs.Claim.{outcomesFrom, Event, event, Each, done, more}
 
 colour-same : (t : Tables) (readings : List ℕ) → colourUnder (conditionsOf t) readings ≡ colourAt t readings
 colour-same t readings = ap (colourOf (whiteOf t)) (sums-same t readings)
@@ -38,27 +46,45 @@ unfolding unless
 both Clear f a g b h k = k
 both (Because c) f a g b h k = h c
 
-abbrev pub ledgerOf : Held Tables → Held (List ℕ) → Tolerance → Tallies → Ledger
+abbrev pub ledgerOf : Held Tables → Held (List ℕ) → Held Amount → VerdictCounts → Ledger
 ledgerOf conditions standard tolerance counts = record { conditions = conditions; standard = standard; tolerance = tolerance; counts = counts }
 
 abbrev Same : Ledger → Call → Type 0
 Same l c = served (sessionOf l) c ≡ replyOf (entered l c)
 
-setting : (readings : List ℕ) (t : Held Tables) (s : Held (List ℕ)) (o : Tolerance) (n : Tallies) → Same (ledgerOf t s o n) (set-standard readings)
+setting : (readings : List ℕ) (t : Held Tables) (s : Held (List ℕ)) (o : Held Amount) (n : VerdictCounts) → Same (ledgerOf t s o n) (set-standard readings)
 setting readings none s o n = unfold firstOf unless in refl
 setting readings (held t) s o n = both _ _ _ _ _ (λ c. refl) (ap (standardBy (sessionOf (ledgerOf (held t) s o n))) (colour-same t readings))
 
-counting : (l : Ledger) (colour : Colour) (j : Judged) → triedBy (sessionOf l) colour j ≡ replyOf (countedAt l colour j)
-counting l colour Without = refl
-counting l colour (By e verdict) = refl
+-- the tallies are the counts
+tallied : (n : VerdictCounts) (verdict : Verdict) → talliedBy (talliesOf n) verdict ≡ talliesOf (countedIn n verdict)
+tallied n Pass = refl
+tallied n Fail = refl
+tallied n OnTheLine = refl
 
-trying : (readings : List ℕ) (t : Held Tables) (s : Held (List ℕ)) (o : Tolerance) (n : Tallies) → Same (ledgerOf t s o n) (trial readings)
+counting : (l : Ledger) (colour : Colour) (e : Difference) (verdict : Verdict) → triedBy (sessionOf l) colour (By e verdict) ≡ replyOf (countedAt l colour (amountOf e) verdict)
+counting l colour e verdict = ap (λ (t : Tallies). record { session = withTallies (sessionOf l) t; outcome = tried colour (amountOf e) verdict }) (tallied (l .counts) verdict)
+
+-- the program judges an amount in the space of the call that set it
+tolerant : (space : Space) (units : ℕ) → hasTolerance (toleranceOf space units) ≡ true
+tolerant Cielab units = refl
+tolerant Cieluv units = refl
+
+judging : (l : Ledger) (space : Space) (units : ℕ) (p q : Colour) → triedBy (sessionOf l) q (judgedOf (toleranceOf space units) p q) ≡ replyOf (judgedAt l (record { space = space; units = units }) p q)
+judging l Cielab units p q = counting l q (difference.Lab (labDifference p q)) (verdictOf (margin Cielab) (labDifference p q .0) units)
+judging l Cieluv units p q = counting l q (difference.Luv (luvDifference p q)) (verdictOf (margin Cieluv) (luvDifference p q .0) units)
+
+trying : (readings : List ℕ) (t : Held Tables) (s : Held (List ℕ)) (o : Held Amount) (n : VerdictCounts) → Same (ledgerOf t s o n) (trial readings)
 trying readings none s o n = unfold firstOf unless in refl
 trying readings (held t) none o n = unfold firstOf unless in refl
-trying readings (held t) (held s) o n =
-    both _ _ _ _ _ (λ c. refl)
-    (ap (λ (k : Colour). triedBy (sessionOf (ledgerOf (held t) (held s) o n)) k (judgedOf o (colourAt t s) k)) (colour-same t readings)
-    ∙ counting (ledgerOf (held t) (held s) o n) (colourAt t readings) (judgedOf o (colourAt t s) (colourAt t readings)))
+trying readings (held t) (held s) none n = unfold firstOf unless in refl
+trying readings (held t) (held s) (held a) n =
+    let l : Ledger = ledgerOf (held t) (held s) (held a) n in
+    let o : Tolerance = toleranceOf (a .space) (a .units) in
+    let k : Colour = colourUnder (conditionsOf t) readings in
+    ap (λ (b : Bool). unless (firstOf (trialChecks true true b (countSum n) readings)) (refusedBy (sessionOf l)) (triedBy (sessionOf l) k (judgedOf o (colourAt t s) k))) (tolerant (a .space) (a .units))
+    ∙ both _ _ _ _ _ (λ c. refl)
+    (ap (λ (q : Colour). triedBy (sessionOf l) q (judgedOf o (colourAt t s) q)) (colour-same t readings) ∙ judging l (a .space) (a .units) (colourAt t s) (colourAt t readings))
 
 -- the session after a call is that of the ledger after it, with the ledger's outcome
 pub simulated : (l : Ledger) (c : Call) → served (sessionOf l) c ≡ replyOf (entered l c)
@@ -76,14 +102,15 @@ outcomes-same l (c ∷ cs) = rw (simulated l c, outcomes-same (entered l c .ledg
 
 -- what holds of the ledger's own outcomes, under a rule that every call keeps, holds of the program's at each call of a list
 module _
-    (P : List Outcome → Ledger → Call → Outcome → Type 0)
-    (K : List Outcome → Ledger → Type 0)
-    (kept : (before : List Outcome) (l : Ledger) (c : Call) → K before l → K (entered l c .outcome ∷ before) (entered l c .ledger))
-    (right : (before : List Outcome) (l : Ledger) (c : Call) → K before l → P before l c (entered l c .outcome))
+    (P : List Event → Ledger → Call → Outcome → Type 0)
+    (K : List Event → Ledger → Type 0)
+    (kept : (before : List Event) (l : Ledger) (c : Call) → K before l → K (event c (entered l c .outcome) ∷ before) (entered l c .ledger))
+    (right : (before : List Event) (l : Ledger) (c : Call) → K before l → P before l c (entered l c .outcome))
   where
-    each-from : (before : List Outcome) (l : Ledger) (cs : List Call) → K before l → Each P before l cs (outcomesFrom (sessionOf l) cs)
+    each-from : (before : List Event) (l : Ledger) (cs : List Call) → K before l → Each P before l cs (outcomesFrom (sessionOf l) cs)
     each-from before l [] k = done
-    each-from before l (c ∷ cs) k = rw (simulated l c) (more (right before l c k) (each-from (entered l c .outcome ∷ before) (entered l c .ledger) cs (kept before l c k)))
+    each-from before l (c ∷ cs) k =
+        rw (simulated l c) (more (right before l c k) (each-from (event c (entered l c .outcome) ∷ before) (entered l c .ledger) cs (kept before l c k)))
 
     pub each-call : K [] emptyLedger → (cs : List Call) → Each P [] emptyLedger cs (outcomesFrom freshSession cs)
     each-call k cs = each-from [] emptyLedger cs k

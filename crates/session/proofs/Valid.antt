@@ -19,7 +19,7 @@ use Rattle.colour.specs.declared.measure.Measured.{Measured}
 use Rattle.colour.specs.declared.measure.Measured.the-variants.{Whole}
 use Rattle.colour.specs.Conditions.{whitePointOf, Sound}
 use Rattle.colour.specs.Colours.{colourUnder}
-use Rattle.colour.specs.Measure.{spectrumChecks, measuredBy}
+use Rattle.colour.specs.Measure.{spectrumChecks, measureAnswer, measuredBy}
 use Rattle.cie.proofs.Sizes.{colour-sized}
 use Rattle.colour.proofs.Preparing.{sound-none, sound-tables, sound-light}
 use Rattle.colour.proofs.Measuring.{spectrum-of, measured-whole, measured-lit}
@@ -29,7 +29,8 @@ use Rattle.session.specs.declared.Tallies.{Tallies}
 use Rattle.session.specs.declared.Session.{Session}
 use Rattle.session.specs.declared.Served.{Served}
 use Rattle.session.specs.Call.{Call, open-tables, open-light, set-standard, set-tolerance, trial, report}
-use Rattle.session.specs.Rules.{countOf, sessionLimit, judgedOf, talliedBy}
+use Rattle.session.specs.CallChecks.{sessionLimit}
+use Rattle.session.specs.Rules.{judgedOf, tallySum, talliedBy}
 use Rattle.session.specs.Ledger.{Ledger, entered}
 use Rattle.session.specs.Served.{Reply, shown, served, freshSession, triedBy, colourOr, Valid}
 use Rattle.session.specs.Meets.{Meets, sessionOf}
@@ -40,21 +41,21 @@ module _ (c : Conditions) (s : Sound c) (readings : List ℕ) where
   sized-under e = colour-sized (s .white) (measured-lit s (spectrum-of readings e))
 
   -- measured sums under sound conditions are ready for their colour, and it is sized
-  module _ {m : Measured} {sums : Sums} (e : m ≡ measuredBy (c .x) (c .y) (c .z) readings) (told : m ≡ Whole sums) where
+  module _ {m : Measured} {sums : Sums} (e : measureAnswer m ≡ measuredBy (c .x) (c .y) (c .z) readings) (told : m ≡ Whole sums) where
     pub measured-ready : (c .white ≡ whitePointOf (c .white .sums)) × White (c .white .sums) × AtMostTwice (c .white .sums) sums
     measured-ready =
-        let w = measured-whole _ _ _ _ _ (sym e ∙ told) in
+        let w = measured-whole _ _ _ _ e told in
         (s .point, s .white, subst (AtMostTwice (c .white .sums)) (sym (w .1)) (measured-lit s (spectrum-of readings (w .0))))
 
     pub measured-sized : {colour : Colour} → colour ≡ colourOf (c .white .sums) sums → Sized colour
     measured-sized k = subst Sized (sym k) (colour-sized (s .white) (measured-ready .2))
 
-pub counted-more : (t : Tallies) (verdict : Verdict) → countOf t ≤ sessionLimit → (countOf t ≡ sessionLimit → ⊥) → countOf (talliedBy t verdict) ≤ sessionLimit
+pub counted-more : (t : Tallies) (verdict : Verdict) → tallySum t ≤ sessionLimit → (tallySum t ≡ sessionLimit → ⊥) → tallySum (talliedBy t verdict) ≤ sessionLimit
 counted-more t Pass h n = omega arith
 counted-more t Fail h n = omega arith
 counted-more t OnTheLine h n = omega arith
 
-after-trial : (s : Session) (colour : Colour) (j : Judged) → Valid s → (countOf (s .tallies) ≡ sessionLimit → ⊥) → Valid (triedBy s colour j .session)
+after-trial : (s : Session) (colour : Colour) (j : Judged) → Valid s → (tallySum (s .tallies) ≡ sessionLimit → ⊥) → Valid (triedBy s colour j .session)
 after-trial s colour Without v n = v
 after-trial s colour (By e verdict) v n = record { sound = v .sound; standard = v .standard; count = counted-more (s .tallies) verdict (v .count) n }
 

@@ -1,24 +1,25 @@
 -- Document 01, "Lists of calls": the ledger, "which is fed each call with its arguments other than the session, and nothing that the program
--- holds or answers". Assumes nothing.
+-- holds or answers". It stands on the paper alone. What it shares with the program are the lists of checks (CallChecks, and those of tables,
+-- lights and spectra in `colour`), the tables and formulas of `cie`, and the causes' numbers: no type and no rule that the program decides by.
+-- `sessionOf` in Meets.antt is the one map from the ledger to the program. Assumes nothing.
 use mathlib.Core.Bool.{Bool, true, false}
 use mathlib.Core.List.{List, [], _∷_}
-use Prim.Native.Nat.{ℕ}
+use Prim.Native.Nat.{ℕ, _+_}
 use Rattle.causes.specs.declared.Cause.{Cause}
 use Rattle.causes.specs.declared.Cause.the-variants.{NoConditions, NoStandard, NoTolerance}
 use Rattle.causes.specs.Causes.{causeNumber}
 use Rattle.causes.specs.Checks.{firstOf, unless}
 use Rattle.cie.specs.declared.Colour.{Colour}
+use Rattle.cie.specs.declared.Verdict.{Verdict}
+use Rattle.cie.specs.declared.Verdict.the-variants.{Pass, Fail, OnTheLine}
 use Rattle.cie.specs.Sums.{Tables}
+use Rattle.cie.specs.Lights.{lightTables}
 use Rattle.cie.specs.Colour.{colourAt}
-use Rattle.colour.specs.Conditions.{tableChecks, lightChecks, lightTables}
-use Rattle.session.specs.declared.Tolerance.{Tolerance}
-use Rattle.session.specs.declared.Tolerance.the-variants.{Unset}
-use Rattle.session.specs.declared.Judged.{Judged}
-use Rattle.session.specs.declared.Judged.the-variants.{Without, By}
-use Rattle.session.specs.declared.Tallies.{Tallies}
+use Rattle.cie.specs.Verdict.{margin, verdictOf, difference}
+use Rattle.colour.specs.Conditions.{tableChecks, lightChecks}
 use Rattle.session.specs.Call.{Call, open-tables, open-light, set-standard, set-tolerance, trial, report}
-use Rattle.session.specs.Outcome.{Outcome, accepted, coloured, tried, counted, refused}
-use Rattle.session.specs.Rules.{standardChecks, toleranceOf, hasTolerance, toleranceChecks, countOf, trialChecks, judgedOf, talliedBy, noTallies}
+use Rattle.session.specs.Outcome.{Amount, VerdictCounts, Outcome, accepted, coloured, tried, counted, refused}
+use Rattle.session.specs.CallChecks.{standardChecks, toleranceChecks, trialChecks}
 
 pub data Held (A : Type 0) : Type 0 where
   none : Held A
@@ -32,12 +33,12 @@ isHeld (held a) = true
 pub record Ledger : Type 0 where
   pub conditions : Held Tables
   pub standard : Held (List ℕ)
-  pub tolerance : Tolerance
-  pub counts : Tallies
+  pub tolerance : Held Amount
+  pub counts : VerdictCounts
 
 -- "it starts with none of the first three and with counts of 0"
 abbrev pub emptyLedger : Ledger
-emptyLedger = record { conditions = none; standard = none; tolerance = Unset; counts = noTallies }
+emptyLedger = record { conditions = none; standard = none; tolerance = none; counts = record { passed = 0; failed = 0; line = 0 } }
 
 -- the ledger after a call, and the call's outcome
 pub record Entry : Type 0 where
@@ -56,37 +57,60 @@ openedAt l t = record { ledger = record { conditions = held t; standard = none; 
 abbrev pub standardAt : Ledger → Held Tables → List ℕ → Entry
 standardAt l none readings = refusedAt l NoConditions
 standardAt l (held t) readings =
-    record { ledger = record { conditions = l .conditions; standard = held readings; tolerance = l .tolerance; counts = l .counts }; outcome = coloured (colourAt t readings) }
+    record {
+      ledger = record { conditions = l .conditions; standard = held readings; tolerance = l .tolerance; counts = l .counts };
+      outcome = coloured (colourAt t readings);
+    }
 
 -- "A tolerance enters its space and amount."
-abbrev pub toleranceAt : Ledger → Tolerance → Entry
-toleranceAt l t = record { ledger = record { conditions = l .conditions; standard = l .standard; tolerance = t; counts = l .counts }; outcome = accepted }
+abbrev pub toleranceAt : Ledger → Amount → Entry
+toleranceAt l a = record { ledger = record { conditions = l .conditions; standard = l .standard; tolerance = held a; counts = l .counts }; outcome = accepted }
 
--- ".. and adds 1 to that verdict's count. It answers its own spectrum's colour, E and the verdict."
-abbrev pub countedAt : Ledger → Colour → Judged → Entry
-countedAt l colour Without = refusedAt l NoTolerance
-countedAt l colour (By e verdict) =
-    record { ledger = record { conditions = l .conditions; standard = l .standard; tolerance = l .tolerance; counts = talliedBy (l .counts) verdict }; outcome = tried colour e verdict }
+-- 10, session full: "tallies sum to 100,000", of those that the ledger has
+abbrev pub countSum : VerdictCounts → ℕ
+countSum n = n .passed + n .failed + n .line
+
+-- "adds 1 to that verdict's count"
+abbrev pub countedIn : VerdictCounts → Verdict → VerdictCounts
+countedIn n Pass = record { passed = n .passed + 1; failed = n .failed; line = n .line }
+countedIn n Fail = record { passed = n .passed; failed = n .failed + 1; line = n .line }
+countedIn n OnTheLine = record { passed = n .passed; failed = n .failed; line = n .line + 1 }
+
+-- "and adds 1 to that verdict's count. It answers its own spectrum's colour, E and the verdict."
+abbrev pub countedAt : Ledger → Colour → Amount → Verdict → Entry
+countedAt l colour e verdict =
+    record {
+      ledger = record { conditions = l .conditions; standard = l .standard; tolerance = l .tolerance; counts = countedIn (l .counts) verdict };
+      outcome = tried colour e verdict;
+    }
+
+-- "E and the verdict by the formulas above": of the standard's colour p and the trial's q, in the space of the tolerance
+abbrev pub judgedAt : Ledger → Amount → Colour → Colour → Entry
+judgedAt l tolerance p q =
+    countedAt l q
+    (record { space = tolerance .space; units = difference (tolerance .space) p q })
+    (verdictOf (margin (tolerance .space)) (difference (tolerance .space) p q) (tolerance .units))
 
 -- "A trial works out, under the ledger's conditions, the colours of both spectra, E and the verdict by the formulas above"
-abbrev pub trialAt : Ledger → Held Tables → Held (List ℕ) → List ℕ → Entry
-trialAt l none standard readings = refusedAt l NoConditions
-trialAt l (held t) none readings = refusedAt l NoStandard
-trialAt l (held t) (held standard) readings = countedAt l (colourAt t readings) (judgedOf (l .tolerance) (colourAt t standard) (colourAt t readings))
+abbrev pub trialAt : Ledger → Held Tables → Held (List ℕ) → Held Amount → List ℕ → Entry
+trialAt l none standard tolerance readings = refusedAt l NoConditions
+trialAt l (held t) none tolerance readings = refusedAt l NoStandard
+trialAt l (held t) (held standard) none readings = refusedAt l NoTolerance
+trialAt l (held t) (held standard) (held tolerance) readings = judgedAt l tolerance (colourAt t standard) (colourAt t readings)
 
+-- "At each call the call's checks run in their order"
 abbrev pub trialEntry : Ledger → List ℕ → Entry
 trialEntry l readings =
-    unless (firstOf (trialChecks (isHeld (l .conditions)) (isHeld (l .standard)) (hasTolerance (l .tolerance)) (countOf (l .counts)) readings))
+    unless (firstOf (trialChecks (isHeld (l .conditions)) (isHeld (l .standard)) (isHeld (l .tolerance)) (countSum (l .counts)) readings))
     (refusedAt l)
-    (trialAt l (l .conditions) (l .standard) readings)
+    (trialAt l (l .conditions) (l .standard) (l .tolerance) readings)
 
--- "At each call the call's checks run in their order; 'opened', 'in force' and 'tallies' in them mean what the ledger has."
 -- "A report changes nothing and answers the counts."
 abbrev pub entered : Ledger → Call → Entry
 entered l (open-tables t) = unless (firstOf (tableChecks t)) (refusedAt l) (openedAt l t)
 entered l (open-light light) = unless (firstOf (lightChecks light)) (refusedAt l) (openedAt l (lightTables light))
 entered l (set-standard readings) = unless (firstOf (standardChecks (isHeld (l .conditions)) readings)) (refusedAt l) (standardAt l (l .conditions) readings)
-entered l (set-tolerance space amount) = unless (firstOf (toleranceChecks amount)) (refusedAt l) (toleranceAt l (toleranceOf space amount))
+entered l (set-tolerance space amount) = unless (firstOf (toleranceChecks amount)) (refusedAt l) (toleranceAt l (record { space = space; units = amount }))
 entered l (trial readings) = trialEntry l readings
 entered l report = record { ledger = l; outcome = counted (l .counts) }
 

@@ -1,24 +1,24 @@
--- What a call answers, in the paper's numbers and values. Assumes nothing.
+-- What the ledger holds and answers beside tables and spectra: words of the paper, and no type that the program decides by. Assumes nothing.
 use Prim.Native.Nat.{ℕ}
-use Rattle.causes.specs.Causes.{causeNumber}
 use Rattle.cie.specs.declared.Colour.{Colour}
+use Rattle.cie.specs.declared.Space.{Space}
 use Rattle.cie.specs.declared.Verdict.{Verdict}
-use Rattle.session.specs.declared.Difference.{Difference}
-use Rattle.session.specs.declared.Tallies.{Tallies}
-use Rattle.session.specs.declared.Answer.{Answer}
-use Rattle.session.specs.declared.Answer.the-variants.{Accepted, Coloured, Tried, Counted, Refused}
+
+-- "an amount in one of the two spaces": a tolerance, or E
+pub record Amount : Type 0 where
+  pub space : Space
+  pub units : ℕ
+
+-- "three counts"
+pub record VerdictCounts : Type 0 where
+  pub passed : ℕ
+  pub failed : ℕ
+  pub line : ℕ
 
 -- "when refused, the cause; otherwise a standard's colour, a trial's colour, E and verdict, or a report's tallies"
 pub data Outcome : Type 0 where
   accepted : Outcome
   coloured : Colour → Outcome
-  tried : Colour → Difference → Verdict → Outcome
-  counted : Tallies → Outcome
+  tried : Colour → Amount → Verdict → Outcome
+  counted : VerdictCounts → Outcome
   refused : ℕ → Outcome
-
-abbrev pub outcomeOf : Answer → Outcome
-outcomeOf Accepted = accepted
-outcomeOf (Coloured colour) = coloured colour
-outcomeOf (Tried colour e verdict) = tried colour e verdict
-outcomeOf (Counted tallies) = counted tallies
-outcomeOf (Refused cause) = refused (causeNumber cause)

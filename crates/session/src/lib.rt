@@ -233,7 +233,7 @@ impl Session {
             return self.refused(Cause::NoTolerance);
         }
         let tallies = self.tallies;
-        if rules::count_of(tallies) == rules::SESSION_LIMIT {
+        if rules::tally_sum(tallies) == rules::SESSION_LIMIT {
             return self.refused(Cause::SessionFull);
         }
         let measured = measure::measure(

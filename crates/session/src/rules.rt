@@ -3,7 +3,8 @@ ghost use mathlib.Core.Path.{_≡_};
 ghost use Prim.Native.Nat.{_≤_};
 ghost use Rattle.cie.specs.Verdict.{verdictOf};
 ghost use Rattle.cie.specs.Sizes.{Sized};
-ghost use Rattle.session.specs.Rules.{toleranceOf, hasTolerance, judgedOf, countOf, sessionLimit, talliedBy};
+ghost use Rattle.session.specs.Rules.{toleranceOf, hasTolerance, judgedOf, tallySum, talliedBy};
+ghost use Rattle.session.specs.CallChecks.{sessionLimit};
 ghost use Rattle.session.specs.Served.{causeIn};
 use crate::Difference;
 use crate::Judged;
@@ -93,16 +94,16 @@ pub fn judge(tolerance: Tolerance, standard: Colour, colour: Colour) -> Judged
     }
 }
 
-pub fn count_of(t: Tallies) -> u32
-    requires { ⌜ countOf t ≤ sessionLimit ⌝ }
-    ensures { λ r. ⌜ r ≡ countOf t ⌝ }
+pub fn tally_sum(t: Tallies) -> u32
+    requires { ⌜ tallySum t ≤ sessionLimit ⌝ }
+    ensures { λ r. ⌜ r ≡ tallySum t ⌝ }
 {
     t.passed + t.failed + t.line
 }
 
 // The tallies with the verdict's raised by 1.
 pub fn tallied(t: Tallies, verdict: Verdict) -> Tallies
-    requires { ⌜ countOf t ≤ sessionLimit ⌝ }
+    requires { ⌜ tallySum t ≤ sessionLimit ⌝ }
     ensures { λ r. ⌜ r ≡ talliedBy t verdict ⌝ }
 {
     match verdict {

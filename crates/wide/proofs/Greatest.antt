@@ -6,13 +6,13 @@ use native.Mathlib.Omega.{arith}
 use native.Mathlib.Nat.{mul-le-mul, mul-le-mul-left, mul-le-mul-right, lt-of-not-le, lt-of-le-of-lt, lt-div-mul-add, le-antisymm, le-of-suc-le-suc}
 use native.Mathlib.Decide.{decLe}
 use lib.Dec.{T, leb, leb→le, le→leb, nleb→lt, not-T}
-use Rattle.wide.specs.Roots.{Last, digit, climb, greatest, squareRoot, cubeRoot}
+use Rattle.wide.specs.Roots.{Last, nextBit, climb, greatest, squareRoot, cubeRoot}
 
 -- ── the greatest number that passes a test ──
 
-digit-last : (t : ℕ → Bool) (q : ℕ) → T (t (2 * q)) → T (not (t (2 * suc q))) → Last t (digit t q)
-unfolding digit
-digit-last t q h k = go (t (2 * q + 1)) refl
+nextBit-last : (t : ℕ → Bool) (q : ℕ) → T (t (2 * q)) → T (not (t (2 * suc q))) → Last t (nextBit t q)
+unfolding nextBit
+nextBit-last t q h k = go (t (2 * q + 1)) refl
   where
     go : (b : Bool) → t (2 * q + 1) ≡ b → Last t (elim b [ true ↦ 2 * q + 1 | false ↦ 2 * q ])
     go true e = let s : suc (2 * q + 1) ≡ 2 * suc q = omega arith in record { passes = rw e tt; stops = rw s k }
@@ -25,8 +25,8 @@ climb-last (suc fuel) t top h z up =
     go (leb 1 top) refl (climb-last fuel (λ p. t (2 * p)) (top / 2) (omega arith) z (λ p x. omega (arith, up (2 * p) x)))
   where
     go : (b : Bool) → leb 1 top ≡ b → Last (λ p. t (2 * p)) (climb fuel (λ p. t (2 * p)) (top / 2)) →
-        Last t (elim b [ true ↦ digit t (climb fuel (λ p. t (2 * p)) (top / 2)) | false ↦ 0 ])
-    go true e l = digit-last t (climb fuel (λ p. t (2 * p)) (top / 2)) (l .passes) (l .stops)
+        Last t (elim b [ true ↦ nextBit t (climb fuel (λ p. t (2 * p)) (top / 2)) | false ↦ 0 ])
+    go true e l = nextBit-last t (climb fuel (λ p. t (2 * p)) (top / 2)) (l .passes) (l .stops)
     go false e l = record { passes = z; stops = not-T (t 1) (λ x. rw e at (le→leb 1 top (up 1 x))) }
 
 pub greatest-last : (t : ℕ → Bool) (top : ℕ) → T (t 0) → ((p : ℕ) → T (t p) → p ≤ top) → Last t (greatest t top)

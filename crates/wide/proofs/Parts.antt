@@ -133,12 +133,18 @@ scaled-diff k a b =
     (diff-over (k * a) (k * b) ∙ sym (mul-sub k a b) ∙ sym (scaled-over k a b))
     (diff-under (k * a) (k * b) ∙ sym (mul-sub k b a) ∙ sym (scaled-under k a b))
 
-pub share-diff : (k a b d m n : ℕ) → m - n ≡ k * (a - b) / d → n - m ≡ k * (b - a) / d → pos m -ℤ pos n ≡ quotZ (pos k *ℤ (pos a -ℤ pos b)) (pos d)
-share-diff k a b d m n e f =
-    parts-same (pos m -ℤ pos n) (quotZ (pos k *ℤ (pos a -ℤ pos b)) (pos d))
-    (diff-over m n ∙ e ∙ sym (share-over k a b d))
-    (diff-under m n ∙ f ∙ sym (share-under k a b d))
-
 -- nothing is shared where nothing is left
-pub share-none : (k a b d : ℕ) → a ≤ b → k * (a - b) / d ≡ 0
+share-none : (k a b d : ℕ) → a ≤ b → k * (a - b) / d ≡ 0
 share-none k a b d h = let e : a - b ≡ 0 = omega arith in rw (e, mul-zero, zero-div)
+
+-- a share by its size, at either side of zero
+pub share-above : (k a b d n : ℕ) → b ≤ a → n ≡ k * (a - b) / d → pos n ≡ quotZ (pos k *ℤ (pos a -ℤ pos b)) (pos d)
+unfolding over under
+share-above k a b d n h e =
+    parts-same (pos n) (quotZ (pos k *ℤ (pos a -ℤ pos b)) (pos d)) (e ∙ sym (share-over k a b d)) (sym (share-none k b a d h) ∙ sym (share-under k a b d))
+
+pub share-below : (k a b d n : ℕ) → a ≤ b → n ≡ k * (b - a) / d → pos 0 -ℤ pos n ≡ quotZ (pos k *ℤ (pos a -ℤ pos b)) (pos d)
+share-below k a b d n h e =
+    parts-same (pos 0 -ℤ pos n) (quotZ (pos k *ℤ (pos a -ℤ pos b)) (pos d))
+    (diff-over 0 n ∙ omega (arith, share-none k a b d h) ∙ sym (share-over k a b d))
+    (diff-under 0 n ∙ omega (arith, e) ∙ sym (share-under k a b d))

@@ -8,7 +8,7 @@ use borrow.Author.Tests.{ltb-true}
 use lib.Dec.{T}
 use lib.IntN.{ℤ, pos, negsuc, natAbs, _-ℤ_}
 use lib.Signed.{mag, ltZ, nonNeg}
-use mir.Facts.{toZ-ofZ, sfits-widen}
+use mir.Facts.{toZ-ofZ, toZ-pos, sfits-widen}
 use mir.Syntax.{Width, w32, w64}
 use mir.Val.{SFits, toZ, ofZ, hbits}
 use Rattle.wide.specs.Words.{apart}
@@ -39,6 +39,13 @@ widened z h = ap (λ (y : ℤ). toZ w64 (ofZ w64 y)) (toZ-ofZ h) ∙ toZ-ofZ (sf
 pub abs-neg : (z : ℤ) → natAbs (pos 0 -ℤ z) ≡ natAbs z
 unfolding over under
 abs-neg z = omega (arith, apart-parts (pos 0) z, abs-parts z)
+
+-- 0 less a number of 31 bits, as a program takes it
+pub negated-fits : (n : ℕ) → n < 2 ^ 31 → SFits w32 (pos 0 -ℤ toZ w32 n)
+negated-fits n h = rw (toZ-pos w32 h) (abs-fits w32 (pos 0 -ℤ pos n) (omega (arith, abs-neg (pos n))))
+
+pub negated : (n : ℕ) → n < 2 ^ 31 → toZ w32 (ofZ w32 (pos 0 -ℤ toZ w32 n)) ≡ pos 0 -ℤ pos n
+negated n h = toZ-ofZ (negated-fits n h) ∙ ap (λ (z : ℤ). pos 0 -ℤ z) (toZ-pos w32 h)
 
 pub below-zero : (z : ℤ) → ltZ z (pos 0) ≡ true → T (nonNeg (pos 0 -ℤ z))
 below-zero (pos n) e = absurd (not-suc-le-zero (ltb-true n 0 e))

@@ -9,13 +9,13 @@ pub record Last (t : ℕ → Bool) (r : ℕ) : Type 0 where
   pub stops : T (not (t (suc r)))
 
 -- the greatest number that passes t, given q, the greatest whose double passes
-unfoldable pub digit : (ℕ → Bool) → ℕ → ℕ
-digit t q = elim (t (2 * q + 1)) [ true ↦ 2 * q + 1 | false ↦ 2 * q ]
+unfoldable pub nextBit : (ℕ → Bool) → ℕ → ℕ
+nextBit t q = elim (t (2 * q + 1)) [ true ↦ 2 * q + 1 | false ↦ 2 * q ]
 
 -- the greatest number up to `top` that passes t, one binary digit for each unit of fuel that is used
 unfoldable pub climb : ℕ → (ℕ → Bool) → ℕ → ℕ
 climb zero t top = 0
-climb (suc fuel) t top = elim (leb 1 top) [ true ↦ digit t (climb fuel (λ p. t (2 * p)) (top / 2)) | false ↦ 0 ]
+climb (suc fuel) t top = elim (leb 1 top) [ true ↦ nextBit t (climb fuel (λ p. t (2 * p)) (top / 2)) | false ↦ 0 ]
 
 -- the greatest number that passes t, where 0 passes and none above `top` does
 unfoldable pub greatest : (ℕ → Bool) → ℕ → ℕ

@@ -1,6 +1,6 @@
 // Signed numbers at the edge of unsigned ones.
 ghost use mathlib.Core.Path.{_≡_};
-ghost use Prim.Native.Nat.{_*_, _^_, _<_};
+ghost use Prim.Native.Nat.{_*_, _/_, _^_, _<_};
 ghost use lib.IntN.{pos, _-ℤ_, _*ℤ_};
 ghost use lib.Signed.{quotZ};
 ghost use Rattle.wide.specs.Words.{distance, apart};
@@ -42,15 +42,21 @@ pub fn multiple(k: u32, a: u32, b: u32) -> i32
     minus(k * a, k * b)
 }
 
+// k × n / d, down.
+fn fraction(k: u32, n: u32, d: u32) -> u32
+    requires { ⌜ k * n < 2 ^ 31 * d ⌝ }
+    ensures { λ r. ⌜ (r ≡ k * n / d) × (r < 2 ^ 31) ⌝ }
+{
+    (k as u64 * n as u64 / d as u64) as u32
+}
+
 // k × (a − b) / d, rounded towards zero.
 pub fn share(k: u32, a: u32, b: u32, d: u32) -> i32
     requires { ⌜ (k * a < 2 ^ 31 * d) × (k * b < 2 ^ 31 * d) ⌝ }
     ensures { λ r. ⌜ r ≡ quotZ (pos k *ℤ (pos a -ℤ pos b)) (pos d) ⌝ }
 {
-    let scale = k as u64;
-    let unit = d as u64;
     if a < b {
-        return minus(0, (scale * (b - a) as u64 / unit) as u32);
+        return -(fraction(k, b - a, d) as i32);
     }
-    minus((scale * (a - b) as u64 / unit) as u32, 0)
+    fraction(k, a - b, d) as i32
 }

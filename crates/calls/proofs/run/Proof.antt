@@ -1,12 +1,11 @@
 -- `calls::run` meets its contract: the answers to the calls that are left, stored from here, are those to the whole list. Assumes nothing.
-use mathlib.Core.Path.{_≡_, refl, sym, _∙_, ap}
+use mathlib.Core.Path.{_≡_, refl, sym, _∙_}
 use Prim.Native.Nat.{_+_, _-_, _*_, _≤_}
 use native.Mathlib.Omega.{arith}
 use borrow.Author.Needs.{needs}
 use borrow.Rule.Slice.PartMut.{same-len-mid}
 use lib.ListN.{length}
 use Rattle.calls.specs.Records.{callWords, answerWords, callCount}
-use Rattle.calls.specs.Run.{runAnswer}
 use Rattle.calls.proofs.Turns.{Along, along-start, along-next, along-end}
 use Rattle.calls.proofs.Ends.{ran-short, ran-answered, after-short, after-answered}
 use Rattle.calls.proofs.run.Statement.{statement}
@@ -23,7 +22,7 @@ abbrev μ-loop : tie.MeasureT-loop
 returns : tie.Need-returns Inv-loop μ-loop
 returns c =
     let a = c .before .before .before .before .before .args in
-    (ap runAnswer (sym (ran-short (a .records .now) _ (c .if1 .taken))), sym (after-short (a .records .now) (a .tables .now) (a .spectra .now) (a .buffer .now) (c .if1 .taken)))
+    (sym (ran-short (a .records .now) _ (c .if1 .taken)), sym (after-short (a .records .now) (a .tables .now) (a .spectra .now) (a .buffer .now) (c .if1 .taken)))
 
 loop-holds : tie.Need-loop-holds Inv-loop μ-loop
 loop-holds c = (refl, omega arith, omega arith, refl, omega arith, along-start _ _ _ _ (c .fresh .ensures .0) (c .fresh .ensures .1))
@@ -61,7 +60,7 @@ returns-2 c =
     let l = c .before in
     let room = l .before .before .if1 .left in
     let a = l .before .before .before .before .before .before .before .args in (
-      ap runAnswer (sym (ran-answered (a .records .now) _ room)),
+      sym (ran-answered (a .records .now) _ room),
       along-end _ _ _ _ (l .loop .inv .5) (c .loop-test .left) room ∙ sym (after-answered (a .records .now) (a .tables .now) (a .spectra .now) (a .buffer .now) room),
     )
 

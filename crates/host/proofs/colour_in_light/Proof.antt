@@ -1,7 +1,6 @@
 -- `host::colour_in_light` meets its contract: its checks run in their order, and 81 readings that pass have a colour. Assumes nothing.
 use borrow.Author.Needs.{needs}
-use Rattle.colour.proofs.Preparing.{opened-clear}
-use Rattle.host.proofs.Spectra.{over-bright, sums-lit, lit, refused-light, refused-short, refused-bright, whole}
+use Rattle.host.proofs.Spectra.{over-bright, sums-lit, opened, known, refused-light, refused-short, refused-bright, whole}
 use Rattle.host.proofs.colour_in_light.Statement.{statement}
 use Rattle.host.proofs.colour_in_light.Tie as tie
 
@@ -9,13 +8,13 @@ returns : tie.Need-returns
 returns c =
     let p = c .before .before .before in
     let a = p .before .before .args in
-    refused-light (a .light) (p .prepare-light .result) (p .prepare-light .ensures .0) (a .spectrum .now) _ (c .before .checked .given .1)
+    refused-light (a .light) (p .prepare-light .result) (p .prepare-light .ensures) (a .spectrum .now) _ (c .before .checked .given .1)
 
 returns-2 : tie.Need-returns-2
 returns-2 c =
     let p = c .before .before .before in
     let a = p .before .before .args in
-    refused-short (a .light) (a .spectrum .now) (lit (a .light) (p .prepare-light .result) (p .prepare-light .ensures .0) (c .before .enum-told .given .1)) (c .if1 .taken)
+    refused-short (a .light) (a .spectrum .now) (known (a .light) (p .prepare-light .result) (p .prepare-light .ensures) (c .before .enum-told .given .1)) (c .if1 .taken)
 
 returns-3 : tie.Need-returns-3
 returns-3 c =
@@ -24,17 +23,17 @@ returns-3 c =
     let test = read .before .before in
     let p = test .before .before .before in
     let a = p .before .before .args in
-    let clear = lit (a .light) (p .prepare-light .result) (p .prepare-light .ensures .0) (test .before .enum-told .given .1) in
+    let clear = known (a .light) (p .prepare-light .result) (p .prepare-light .ensures) (test .before .enum-told .given .1) in
     refused-bright (a .light) (a .spectrum .now) clear (test .if1 .left) (read .read-words .ensures)
-    (over-bright (p .prepare-light .result .conditions) (read .read-words .last .1 .1 .0) _ (search needs) (m .measure .ensures) (c .enum-told2 .given .1))
+    (over-bright (p .prepare-light .result .conditions) (read .read-words .last .1 .1 .0) (m .measure .ensures) (search needs) (c .enum-told2 .given .1))
 
 colour-of-requires : tie.Need-colour-of-requires
 colour-of-requires c κs =
     let m = c .before .before .before .before in
     let read = m .before .before .before .before .before .before .before .before .read-words in
     let p = m .before .before .before .before .before .before .before .before .before .before .before .before .before .prepare-light in
-    let sound = p .ensures .1 in
-    (sound .point, sound .white, sums-lit (p .result .conditions) (read .last .1 .1 .0) sound (m .measure .ensures) (c .before .before .measured .given .1))
+    let sound = p .ensures .sound in
+    (sound .point, sound .white, sums-lit (p .result .conditions) (read .last .1 .1 .0) (m .measure .ensures) sound (c .before .before .measured .given .1))
 
 returns-4 : tie.Need-returns-4
 returns-4 c =
@@ -44,9 +43,9 @@ returns-4 c =
     let p = test .before .before .before in
     let a = p .before .before .args in
     let clear = test .before .enum-told .given .1 in
-    let light = lit (a .light) (p .prepare-light .result) (p .prepare-light .ensures .0) clear in
-    let opened = opened-clear (a .light) (p .prepare-light .result) (p .prepare-light .ensures .0) clear in
-    whole (a .light) (a .spectrum .now) light (test .if1 .left) (read .read-words .ensures) (opened .1)
+    let light = known (a .light) (p .prepare-light .result) (p .prepare-light .ensures) clear in
+    let conditions = opened (a .light) (p .prepare-light .result) (p .prepare-light .ensures) clear in
+    whole (a .light) (a .spectrum .now) light (test .if1 .left) (read .read-words .ensures) (conditions .1)
     (m .measure .ensures) (c .before .before .before .measured .given .1) (c .colour-of .ensures)
 
 pub colour-in-light-spec : {M : Type 1} → statement M

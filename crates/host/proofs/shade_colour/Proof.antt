@@ -1,7 +1,8 @@
 -- `host::shade_colour` meets its contract: the buffer's check comes last, and the answer is stored only after it. Assumes nothing.
-use mathlib.Core.Path.{sym, _∙_}
+use mathlib.Core.Path.{sym, ap, _∙_}
 use borrow.Author.Needs.{needs}
-use Rattle.host.proofs.Answers.{found-sized, refused, no-room, written}
+use Rattle.host.specs.Host.{colouredAnswer}
+use Rattle.host.proofs.Answers.{found-sized, no-colour, no-room, written}
 use Rattle.host.proofs.shade_colour.Statement.{statement}
 use Rattle.host.proofs.shade_colour.Tie as tie
 
@@ -10,7 +11,7 @@ returns c =
     let f = c .before .before .before in
     let k = f .before .before in
     let a = k .before .before .before .args in
-    let r = no-room (a .light) (a .spectrum .now) (a .out .now) _ (sym (f .found2 .given .1) ∙ k .colour-in-light .ensures) (c .before .if1 .taken) in
+    let r = no-room (a .light) (a .spectrum .now) (a .out .now) _ (ap colouredAnswer (sym (f .found2 .given .1)) ∙ k .colour-in-light .ensures) (c .before .if1 .taken) in
     (c .number2 .ensures ∙ r .0, r .1)
 
 put-answer-requires : tie.Need-put-answer-requires
@@ -18,14 +19,14 @@ put-answer-requires c κs =
     let f = c .before .before .before in
     let k = f .before .before in
     let a = k .before .before .before .args in
-    (found-sized (a .light) (a .spectrum .now) _ (sym (f .found2 .given .1) ∙ k .colour-in-light .ensures), c .before .if1 .left)
+    (found-sized (a .light) (a .spectrum .now) _ (ap colouredAnswer (sym (f .found2 .given .1)) ∙ k .colour-in-light .ensures), c .before .if1 .left)
 
 returns-2 : tie.Need-returns-2
 returns-2 c =
     let f = c .before .before in
     let k = f .before .before in
     let a = k .before .before .before .args in
-    let r = refused (a .light) (a .spectrum .now) (a .out .now) _ (sym (f .found .given .1) ∙ k .colour-in-light .ensures) in
+    let r = no-colour (a .light) (a .spectrum .now) (a .out .now) _ (ap colouredAnswer (sym (f .found .given .1)) ∙ k .colour-in-light .ensures) in
     (c .number .ensures ∙ r .0, r .1)
 
 returns-3 : tie.Need-returns-3
@@ -34,7 +35,7 @@ returns-3 c =
     let f = p .before .before .before .before in
     let k = f .before .before in
     let a = k .before .before .before .args in
-    written (a .light) (a .spectrum .now) (a .out .now) _ (sym (f .found2 .given .1) ∙ k .colour-in-light .ensures) (p .before .before .if1 .left) (p .put-answer .ensures)
+    written (a .light) (a .spectrum .now) (a .out .now) _ (ap colouredAnswer (sym (f .found2 .given .1)) ∙ k .colour-in-light .ensures) (p .before .before .if1 .left) (p .put-answer .ensures)
 
 pub shade-colour-spec : {M : Type 1} → statement M
 shade-colour-spec =

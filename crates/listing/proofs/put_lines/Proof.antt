@@ -30,7 +30,7 @@ put-shade-requires c κs =
     let n = c .before .before .before .count .ensures in
     let light = c .before .before .before .before .before .prepare-light .ensures in
     let s = c .before .before .before .before .before .before .before .before in
-    (opened-d65 (light .0), s .pre .0, omega (arith, n .0), omega (arith, n .1, l .inv .1, l .inv .2))
+    (opened-d65 light, s .pre .0, omega (arith, n .0), omega (arith, n .1, l .inv .1, l .inv .2))
 
 loop-again : tie.Need-loop-again Inv-loop μ-loop
 loop-again c =

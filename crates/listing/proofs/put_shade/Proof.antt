@@ -1,7 +1,8 @@
 -- `listing::put_shade` meets its contract: a book's readings are spectra, so each has its colour under the opened light. Assumes nothing.
 use mathlib.Core.Path.{sym, ap, _∙_, subst}
 use borrow.Author.Needs.{needs}
-use Rattle.colour.specs.Conditions.{lightD65, Sound}
+use Rattle.cie.specs.Lights.{lightD65}
+use Rattle.colour.specs.Conditions.{Sound}
 use Rattle.colour.proofs.Preparing.{sound-light}
 use Rattle.text.proofs.Puts.{same}
 use Rattle.listing.specs.Listing.{shadeColour}

@@ -3,7 +3,7 @@ use mathlib.Core.Path.{sym, ap, _∙_}
 use native.Mathlib.Omega.{arith}
 use borrow.Author.Needs.{needs}
 use Rattle.book.specs.Calls.{writeAnswer}
-use Rattle.probe.specs.Probe.{writeCode}
+use Rattle.probe.specs.Probe.{countCode}
 use Rattle.probe.proofs.probe_write.Statement.{statement}
 use Rattle.probe.proofs.probe_write.Tie as tie
 
@@ -11,13 +11,13 @@ returns : tie.Need-returns
 returns c =
     let t = c .before in
     let w = t .before .before .before .before in
-    (ap writeCode (ap writeAnswer (sym (t .total .given .1)) ∙ w .write .ensures .0), w .write .ensures .1)
+    (ap countCode (ap writeAnswer (sym (t .total .given .1)) ∙ w .write .ensures .0), w .write .ensures .1)
 
 returns-2 : tie.Need-returns-2
 returns-2 c =
     let t = c .before .before in
     let w = t .before .before .before .before in
-    (omega (arith, c .number .ensures) ∙ ap writeCode (ap writeAnswer (sym (t .cause .given .1)) ∙ w .write .ensures .0), w .write .ensures .1)
+    (omega (arith, c .number .ensures) ∙ ap countCode (ap writeAnswer (sym (t .cause .given .1)) ∙ w .write .ensures .0), w .write .ensures .1)
 
 pub probe-write-spec : {M : Type 1} → statement M
 probe-write-spec =

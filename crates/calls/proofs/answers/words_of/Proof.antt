@@ -12,7 +12,7 @@ returns-2 c = laid-coloured (c .before .before .answer .given .1) (c .colour-wor
 
 returns-3 : tie.Need-returns-3
 returns-3 c =
-    laid-tried (c .before .before .before .before .answer2 .given .1) (c .before .before .amount-of .ensures) (c .before .verdict-word .ensures) (c .colour-words2 .ensures)
+    laid-tried (c .before .before .before .before .answer2 .given .1) (c .before .before .amount-of .ensures .0) (c .before .before .amount-of .ensures .1) (c .before .verdict-word .ensures) (c .colour-words2 .ensures)
 
 returns-4 : tie.Need-returns-4
 returns-4 c = laid-counted (c .before .before .answer3 .given .1) (c .short-words2 .ensures)

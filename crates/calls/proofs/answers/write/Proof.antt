@@ -6,9 +6,9 @@ use native.Mathlib.Omega.{arith}
 use borrow.Author.Needs.{needs}
 use lib.ListN.{length, drop, length-set}
 use lib.Seq.{sets}
-use Rattle.session.specs.Outcome.{outcomeOf}
+use Rattle.session.specs.Served.{outcomeOf}
 use Rattle.calls.specs.Records.{answerWords}
-use Rattle.calls.proofs.Laid.{length-answerOf}
+use Rattle.calls.proofs.Laid.{length-answer}
 use Rattle.calls.proofs.Turns.{words-store, words-stored}
 use Rattle.calls.proofs.answers.write.Statement.{statement}
 use Rattle.calls.proofs.answers.write.Tie as tie
@@ -21,7 +21,7 @@ abbrev μ-loop : tie.MeasureT-loop
 μ-loop part₀ words i₀ part i = answerWords - i
 
 loop-holds : tie.Need-loop-holds Inv-loop μ-loop
-loop-holds c = (omega arith, ap length (c .words-of .ensures) ∙ length-answerOf (outcomeOf (c .before .before .args .answer)), refl, refl)
+loop-holds c = (omega arith, ap length (c .words-of .ensures) ∙ length-answer (outcomeOf (c .before .before .args .answer)), refl, refl)
 
 loop-again : tie.Need-loop-again Inv-loop μ-loop
 loop-again c =

@@ -6,7 +6,7 @@ use denote.Ref.{now}
 use Rattle.causes.proofs.Checks.{fires, passes, ends}
 use Rattle.cie.specs.Sums.{Tables, tablesOf, whiteOf, dark, lopsided}
 use Rattle.colour.specs.Conditions.{anyShort, anyOffScale}
-use Rattle.colour.proofs.Preparing.{Fit, fit, weighed, white-by, accepted-by, answered}
+use Rattle.colour.proofs.Preparing.{Fit, fit, weighed, white-by, conditions-by, prepares-as, accepted-as}
 use Rattle.colour.proofs.conditions.prepare.Statement.{statement}
 use Rattle.colour.proofs.conditions.prepare.Tie as tie
 
@@ -34,15 +34,14 @@ lit : (c : tie.Else3) → dark (whiteOf (given (c .before .before .before .befor
 lit c = ap dark (sym (white (c .before .before))) ∙ sym (c .before .is-dark .ensures) ∙ c .if3 .left
 
 returns : tie.Need-returns
-returns c = answered _ (c .refused .ensures .0 ∙ sym (fires _ _ _ _ _ (sym (c .before .before .any-short .ensures) ∙ c .before .if1 .taken)))
+returns c = prepares-as (fires _ _ _ _ _ (sym (c .before .before .any-short .ensures) ∙ c .before .if1 .taken)) (c .refused .ensures)
 
 returns-2 : tie.Need-returns-2
 returns-2 c =
-    answered _
-    (c .refused2 .ensures .0
-    ∙ sym
+    prepares-as
     (passes _ _ _ _ _ (sym (c .before .before .before .before .any-short .ensures) ∙ c .before .before .before .if1 .left)
-    ∙ fires _ _ _ _ _ (sym (c .before .before .any-off-scale .ensures) ∙ c .before .if2 .taken)))
+    ∙ fires _ _ _ _ _ (sym (c .before .before .any-off-scale .ensures) ∙ c .before .if2 .taken))
+    (c .refused2 .ensures)
 
 white-of-requires : tie.Need-white-of-requires
 white-of-requires c κs =
@@ -52,23 +51,21 @@ white-of-requires c κs =
 returns-3 : tie.Need-returns-3
 returns-3 c =
     let k = c .before .before .before .before .before .before .before in
-    answered (given k)
-    (c .refused3 .ensures .0
-    ∙ sym
+    prepares-as
     (passes _ _ _ _ _ (full k)
     ∙ passes _ _ _ _ _ (scaled k)
-    ∙ fires _ _ _ _ _ (ap dark (sym (white (c .before .before .before))) ∙ sym (c .before .before .is-dark .ensures) ∙ c .before .if3 .taken)))
+    ∙ fires _ _ _ _ _ (ap dark (sym (white (c .before .before .before))) ∙ sym (c .before .before .is-dark .ensures) ∙ c .before .if3 .taken))
+    (c .refused3 .ensures)
 
 returns-4 : tie.Need-returns-4
 returns-4 c =
     let k = c .before .before .before .before .before .before .before .before .before in
-    answered (given k)
-    (c .refused4 .ensures .0
-    ∙ sym
+    prepares-as
     (passes _ _ _ _ _ (full k)
     ∙ passes _ _ _ _ _ (scaled k)
     ∙ passes _ _ _ _ _ (lit (c .before .before .before))
-    ∙ fires _ _ _ _ _ (ap lopsided (sym (white (c .before .before .before .before .before))) ∙ sym (c .before .before .is-lopsided .ensures) ∙ c .before .if4 .taken)))
+    ∙ fires _ _ _ _ _ (ap lopsided (sym (white (c .before .before .before .before .before))) ∙ sym (c .before .before .is-lopsided .ensures) ∙ c .before .if4 .taken))
+    (c .refused4 .ensures)
 
 white-point-requires : tie.Need-white-point-requires
 white-point-requires c κs =
@@ -81,14 +78,13 @@ returns-5 : tie.Need-returns-5
 returns-5 c =
     let w = c .before .before .before .before .before in
     let k = w .before .before .before .before in
-    answered (given k)
-    (accepted-by (given k) (w .before .before .before .weights-of .ensures) (w .before .before .weights-of2 .ensures) (w .before .weights-of3 .ensures) (white w) (c .white-point .ensures)
-    ∙ sym
+    accepted-as (given k)
+    (conditions-by (given k) (w .before .before .before .weights-of .ensures) (w .before .before .weights-of2 .ensures) (w .before .weights-of3 .ensures) (white w) (c .white-point .ensures))
     (passes _ _ _ _ _ (full k)
     ∙ passes _ _ _ _ _ (scaled k)
     ∙ passes _ _ _ _ _ (lit (c .before .before .before))
     ∙ passes _ _ _ _ _ (ap lopsided (sym (white w)) ∙ sym (c .before .before .is-lopsided .ensures) ∙ c .before .if4 .left)
-    ∙ ends _ _))
+    ∙ ends _ _)
 
 pub prepare-spec : {M : Type 1} → statement M
 prepare-spec =

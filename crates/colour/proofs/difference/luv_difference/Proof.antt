@@ -3,15 +3,15 @@ use borrow.Author.Needs.{needs}
 use mathlib.Core.Path.{ap}
 use Prim.Native.Nat.{ℕ}
 use Rattle.cie.specs.Colour.{luvDifference}
-use Rattle.colour.proofs.Extents.{luv-within, length-fits, length-is}
+use Rattle.colour.proofs.Extents.{luv-within, squares-fit, root-is}
 use Rattle.colour.proofs.difference.luv_difference.Statement.{statement}
 use Rattle.colour.proofs.difference.luv_difference.Tie as tie
 
-length-requires : tie.Need-length-requires
-length-requires c κs =
+root-of-squares-requires : tie.Need-root-of-squares-requires
+root-of-squares-requires c κs =
     let u = c .before .before .before in
     let l = u .before .before .before in
-    length-fits (luv-within (l .before .pre .0)) (luv-within (l .before .pre .1)) _ _ _ (l .distance-of .ensures) (u .apart-of .ensures) (c .apart-of2 .ensures)
+    squares-fit (luv-within (l .before .pre .0)) (luv-within (l .before .pre .1)) _ _ _ (l .distance-of .ensures) (u .apart-of .ensures) (c .apart-of2 .ensures)
 
 returns : tie.Need-returns
 unfolding luvDifference
@@ -19,8 +19,8 @@ returns c =
     let u = c .before .before .before .before in
     let l = u .before .before .before in
     ap (λ (n : ℕ). record { 0 = n })
-    (length-is (luv-within (l .before .pre .0)) (luv-within (l .before .pre .1)) _ _ _ (l .distance-of .ensures) (u .apart-of .ensures)
-    (c .before .apart-of2 .ensures) _ (c .length .ensures))
+    (root-is (luv-within (l .before .pre .0)) (luv-within (l .before .pre .1)) _ _ _ (l .distance-of .ensures) (u .apart-of .ensures)
+    (c .before .apart-of2 .ensures) _ (c .root-of-squares .ensures))
 
 pub luv-difference-spec : {M : Type 1} → statement M
-luv-difference-spec = tie.close (tie.spec (λ c κs. search needs) (λ c κs. search needs) (λ c κs. search needs) length-requires returns)
+luv-difference-spec = tie.close (tie.spec (λ c κs. search needs) (λ c κs. search needs) (λ c κs. search needs) root-of-squares-requires returns)

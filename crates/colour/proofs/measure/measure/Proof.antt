@@ -3,8 +3,8 @@ use mathlib.Core.Path.{sym, _∙_, ap}
 use mathlib.Core.Bool.{not}
 use borrow.Author.Needs.{needs}
 use borrow.Author.Tests.{eq-eqb, ne-eqb}
+use Rattle.causes.specs.Causes.{accepted}
 use Rattle.causes.proofs.Checks.{fires, passes, ends}
-use Rattle.colour.specs.declared.measure.Measured.the-variants.{Whole}
 use Rattle.colour.specs.Measure.{measuredBy}
 use Rattle.colour.proofs.measure.measure.Statement.{statement}
 use Rattle.colour.proofs.measure.measure.Tie as tie
@@ -32,7 +32,7 @@ sums-of-requires c κs =
 returns-3 : tie.Need-returns-3
 unfolding measuredBy
 returns-3 c =
-    ap Whole (c .sums-of .ensures)
+    ap accepted (c .sums-of .ensures)
     ∙ sym
     (passes _ _ _ _ _ (ap not (eq-eqb _ _ (c .before .before .before .if1 .left)))
     ∙ passes _ _ _ _ _ (sym (c .before .before .over-bright .ensures) ∙ c .before .if2 .left)

@@ -11,22 +11,22 @@ use Rattle.colour.proofs.ratios.chromaticity_of.Tie as tie
 returns : tie.Need-returns
 returns c =
     let z = c .before in
-    no-chromaticity (z .before .before .args .s) _ (z .before .total-of .ensures) _ (z .is-zero .ensures) (c .if1 .taken)
+    no-chromaticity (z .before .before .args .s) _ (z .before .xy-under .ensures) _ (z .is-zero .ensures) (c .if1 .taken)
 
 ratio-requires : tie.Need-ratio-requires
 ratio-requires c κs =
     let z = c .before in
-    omega (arith, above-zero (value (z .before .total-of .result)) (sym (z .is-zero .ensures) ∙ c .if1 .left))
+    omega (arith, above-zero (value (z .before .xy-under .result)) (sym (z .is-zero .ensures) ∙ c .if1 .left))
 
 ratio-requires-2 : tie.Need-ratio-requires-2
 ratio-requires-2 c κs =
     let z = c .before .before in
-    omega (arith, above-zero (value (z .before .total-of .result)) (sym (z .is-zero .ensures) ∙ c .before .if1 .left))
+    omega (arith, above-zero (value (z .before .xy-under .result)) (sym (z .is-zero .ensures) ∙ c .before .if1 .left))
 
 returns-2 : tie.Need-returns-2
 returns-2 c =
     let z = c .before .before .before in
-    chromaticity-is (z .before .before .args .s) _ (z .before .total-of .ensures) _ (z .is-zero .ensures) (c .before .before .if1 .left) _ _
+    chromaticity-is (z .before .before .args .s) _ (z .before .xy-under .ensures) _ (z .is-zero .ensures) (c .before .before .if1 .left) _ _
     (c .before .ratio .ensures .0) (c .ratio2 .ensures .0)
 
 pub chromaticity-of-spec : {M : Type 1} → statement M

@@ -1,5 +1,4 @@
 -- `replay::answer::spectrum` lends no more readings than there are. Assumes nothing.
-use mathlib.Core.Path.{sym, _∙_}
 use native.Mathlib.Omega.{arith}
 use borrow.Author.Needs.{needs}
 use lib.ListN.{length-take}

@@ -1,6 +1,5 @@
 -- `replay::token::code_of` ends: each turn passes a byte. Assumes nothing.
 use Prim.Native.Nat.{_≤_, _-_}
-use native.Mathlib.Omega.{arith}
 use borrow.Author.Needs.{needs}
 use lib.ListN.{length}
 use Rattle.replay.proofs.token.code_of.Statement.{statement}

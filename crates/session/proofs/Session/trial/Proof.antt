@@ -7,7 +7,7 @@ use borrow.Author.Tests.{not-true, not-false}
 use Rattle.causes.proofs.Checks.{fires}
 use Rattle.session.specs.declared.Tallies.{Tallies}
 use Rattle.session.specs.Outcome.{tried}
-use Rattle.session.specs.Served.{SizedStandard, causeIn, refusedBy, triedBy, withTallies, trialReply}
+use Rattle.session.specs.Served.{amountOf, SizedStandard, causeIn, refusedBy, triedBy, withTallies, trialReply}
 use Rattle.session.proofs.Valid.{measured-ready, measured-sized, meets}
 use Rattle.session.proofs.Replies.{Ready, trial-missing, trial-intolerant, trial-full, trial-refused, trial-whole}
 use Rattle.session.proofs.Session.trial.Statement.{statement}
@@ -37,7 +37,7 @@ full c =
     let test = found .before .before in
     let s = test .before .before in
     let some = sym (tolerance .before .has-tolerance .ensures) ∙ not-false _ (tolerance .if2 .left) in
-    let count = sym (c .before .before .count-of .ensures) ∙ c .before .if3 .taken in
+    let count = sym (c .before .before .tally-sum .ensures) ∙ c .before .if3 .taken in
     meets _ _ _ (s .pre) (c .refused4 .ensures ∙ sym (trial-full _ (now (s .args .readings)) (test .if1 .left) (found .held .given .1) some count))
 
 -- where the fourth test is passed: what was given, and what the tests showed
@@ -52,7 +52,7 @@ ready c =
       opened = found .before .before .if1 .left;
       held = found .held .given .1;
       tolerant = sym (tolerance .before .has-tolerance .ensures) ∙ not-false _ (tolerance .if2 .left);
-      room = λ e. c .if3 .left (c .before .count-of .ensures ∙ e);
+      room = λ e. c .if3 .left (c .before .tally-sum .ensures ∙ e);
     }
 
 measure-requires : tie.Need-measure-requires
@@ -114,7 +114,7 @@ judged c =
     let s = start (tests j) .args .t1 in
     let colour = j .before .colour-of .result in
     meets _ _ _ (start (tests j) .pre)
-    (ap (λ (t : Tallies). record { session = withTallies s t; outcome = tried colour (by .0 .0) (by .0 .1 .0) }) (c .tallied .ensures)
+    (ap (λ (t : Tallies). record { session = withTallies s t; outcome = tried colour (amountOf (by .0 .0)) (by .0 .1 .0) }) (c .tallied .ensures)
     ∙ sym (measured j ∙ ap (triedBy s colour) (by .1)))
 
 pub trial-spec : {M : Type 1} → statement M

@@ -2,22 +2,14 @@
 -- Assumes nothing.
 use borrow.Author.Needs.{needs}
 use native.Mathlib.Omega.{arith}
-use mathlib.Core.Path.{_≡_, ap, _∙_}
-use Prim.Native.Nat.{ℕ, _-_, _^_, _<_}
-use lib.IntN.{ℤ, pos, _-ℤ_}
-use mir.Facts.{toZ-ofZ, toZ-pos}
+use mathlib.Core.Path.{_∙_}
+use Prim.Native.Nat.{_-_}
+use mir.Facts.{toZ-pos}
 use mir.Syntax.{w32}
-use mir.Val.{SFits, toZ}
 use Rattle.wide.proofs.Parts.{diff-same, diff-pos}
-use Rattle.wide.proofs.Signs.{abs-fits, abs-neg}
+use Rattle.wide.proofs.Signs.{negated-fits, negated}
 use Rattle.wide.proofs.signed.minus.Statement.{statement}
 use Rattle.wide.proofs.signed.minus.Tie as tie
-
-negated : (n : ℕ) → n < 2 ^ 31 → pos 0 -ℤ toZ w32 n ≡ pos 0 -ℤ pos n
-negated n h = ap (λ (z : ℤ). pos 0 -ℤ z) (toZ-pos w32 h)
-
-negated-fits : (n : ℕ) → n < 2 ^ 31 → SFits w32 (pos 0 -ℤ toZ w32 n)
-negated-fits n h = rw (negated n h) (abs-fits w32 (pos 0 -ℤ pos n) (omega (arith, abs-neg (pos n))))
 
 sub-result-2 : tie.Need-sub-result-2
 sub-result-2 c = let p = c .before .args in negated-fits (p .b - p .a) (search needs)
@@ -25,7 +17,7 @@ sub-result-2 c = let p = c .before .args in negated-fits (p .b - p .a) (search n
 returns : tie.Need-returns
 returns c =
     let p = c .before .args in
-    toZ-ofZ (negated-fits (p .b - p .a) (search needs)) ∙ negated (p .b - p .a) (search needs)
+    negated (p .b - p .a) (search needs)
     ∙ diff-same 0 (p .b - p .a) (p .a) (p .b) (omega arith) (omega arith)
 
 returns-2 : tie.Need-returns-2

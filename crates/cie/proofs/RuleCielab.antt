@@ -13,11 +13,11 @@ use Rattle.cie.specs.declared.Sums.{Sums}
 use Rattle.cie.specs.declared.Space.the-variants.{Cielab}
 use Rattle.cie.specs.Sums.{White}
 use Rattle.cie.specs.Colour.{lAt, aFactor, bFactor, aAt, bAt, squares, colourOf, labDifference}
-use Rattle.cie.specs.Exact.{squaresAt}
+use Rattle.cie.specs.Exact.{allowance, squaresAt}
 use Rattle.cie.specs.Verdict.{margin, verdictOf, difference, Told}
 use Rattle.cie.proofs.Steps.{step-scales}
 use Rattle.cie.proofs.Rule.{Axis, rule-right}
-use Rattle.cie.proofs.Distances.{distance-scales, distance-times, exact-axis, lightness-axis}
+use Rattle.cie.proofs.RuleAxes.{distance-scales, distance-times, exact-axis, lightness-axis}
 use Rattle.cie.proofs.Whites.{white-x, white-y, white-z}
 
 -- ── multiples of differences ──
@@ -60,9 +60,9 @@ module _ (w s t : Sums) (W : White w) where
       (step-scales M (t .y) (w .y) m (white-y W))
       (step-scales M (t .z) (w .z) m (white-z W)))
 
-  -- 1² + 10² + 4² ≤ 11², and the margin is 11 + 1
+  -- 1² + 10² + 4² is at most the square of the margin less 1, and the margin is above the allowance
   pub cielab-right : (T : ℕ) → Told Cielab (squaresAt Cielab w s t) T (verdictOf (margin Cielab) (difference Cielab (colourOf w s) (colourOf w t)) T)
   unfolding squaresAt labDifference colourOf
-  cielab-right = rule-right (lightness-axis (s .y) (t .y) (w .y) (white-y W)) a-axis b-axis _ 1 11
+  cielab-right = rule-right (lightness-axis (s .y) (t .y) (w .y) (white-y W)) a-axis b-axis _ (margin Cielab - allowance Cielab) (margin Cielab - 1)
       (squareRoot-floor (squares (distance (lAt 1 w s) (lAt 1 w t)) (apart (aAt 1 w s) (aAt 1 w t)) (apart (bAt 1 w s) (bAt 1 w t))))
       (lit≤ tt) (lit≤ tt) Cielab (lit≤ tt) refl refl

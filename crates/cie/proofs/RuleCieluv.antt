@@ -16,11 +16,11 @@ use Rattle.cie.specs.declared.Sums.{Sums}
 use Rattle.cie.specs.declared.Space.the-variants.{Cieluv}
 use Rattle.cie.specs.Sums.{White, AtMostTwice}
 use Rattle.cie.specs.Colour.{uOver, vOver, uvUnder, primeScale, prime, uvFactor, coordinate, uOf, vOf, lightnessAt, lAt, squares, colourOf, luvDifference}
-use Rattle.cie.specs.Exact.{coordinateAt, uAt, vAt, squaresAt}
+use Rattle.cie.specs.Exact.{allowance, coordinateAt, uAt, vAt, squaresAt}
 use Rattle.cie.specs.Verdict.{margin, verdictOf, difference, Told}
 use Rattle.cie.proofs.Steps.{lightness-scales, lightness-size}
 use Rattle.cie.proofs.Rule.{Axis, rule-right}
-use Rattle.cie.proofs.Distances.{distance-times, lightness-axis}
+use Rattle.cie.proofs.RuleAxes.{distance-times, lightness-axis}
 use Rattle.cie.proofs.Whites.{above-zero, white-y}
 
 -- ── one coordinate of one colour: the exact one, P − P', against M times the whole one, p − p' ──
@@ -155,9 +155,9 @@ module _ (w s t : Sums) (W : White w) (S : AtMostTwice w s) (T : AtMostTwice w t
   v-axis = coordinate-axis 8 (s .y) (t .y) (w .y) (vOver s) (uvUnder s) (vOver t) (uvUnder t) (vOver w) (uvUnder w)
       (white-y W) (S .y) (T .y) (omega (arith, white-y W)) (omega arith) (omega arith) (omega arith)
 
-  -- 1² + 110² + 22² ≤ 113², 0² + 4² + 4² < 6², and the margin is 108 + 6
+  -- 1² + 110² + 22² is at most the square of the margin less 1, and 4² + 4² below the square of the margin less the allowance
   pub cieluv-right : (amount : ℕ) → Told Cieluv (squaresAt Cieluv w s t) amount (verdictOf (margin Cieluv) (difference Cieluv (colourOf w s) (colourOf w t)) amount)
   unfolding squaresAt luvDifference colourOf
-  cieluv-right = rule-right (lightness-axis (s .y) (t .y) (w .y) (white-y W)) u-axis v-axis _ 6 113
+  cieluv-right = rule-right (lightness-axis (s .y) (t .y) (w .y) (white-y W)) u-axis v-axis _ (margin Cieluv - allowance Cieluv) (margin Cieluv - 1)
       (squareRoot-floor (squares (distance (lAt 1 w s) (lAt 1 w t)) (apart (uOf w s) (uOf w t)) (apart (vOf w s) (vOf w t))))
       (lit≤ tt) (lit≤ tt) Cieluv (lit≤ tt) refl refl
