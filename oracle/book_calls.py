@@ -5,12 +5,14 @@ from collections import namedtuple
 
 import book
 from book import ENTRY, HEAD, SHADE_LIMIT
+from chance import Chance
 from fresh import damaged_book, overwrite, rising_numbers, whole_book
 from ledger import READING_LIMIT, Refused
 from lines import any_spectrum, changed, flat
 from tables import LENGTH
 
-REFUSED_WRITE = 2**32  # above every total; the cause's number is added
+REFUSAL = 2**32  # above every count; the cause's number is added
+LAST_SHADE = 2**16 - 1
 
 # What is lent, as bytes: the buffer to write, or the places of 2 bytes each to read into.
 Write = namedtuple("Write", "numbers spectra lent")
@@ -27,14 +29,14 @@ def answer(call):
         book.read(call.data, call.number, places)
         return 0, array("H", places).tobytes()
     except Refused as refusal:
-        above = REFUSED_WRITE if isinstance(call, Write) else 0
+        above = REFUSAL if isinstance(call, Write) else 0
         return above + refusal.cause, call.lent
 
 
 def outcome(call, number):
     """The call's kind, with the cause's number or `done`."""
     if isinstance(call, Write):
-        return f"write {number - REFUSED_WRITE if number >= REFUSED_WRITE else 'done'}"
+        return f"write {number - REFUSAL if number >= REFUSAL else 'done'}"
     return f"read {number or 'done'}"
 
 
@@ -55,6 +57,15 @@ def fill(chance, count):
     """The readings of some shades; after twenty they repeat."""
     readings = [reading for _ in range(min(count, 20)) for reading in any_spectrum(chance)]
     return (readings * (count // 20 + 1))[:LENGTH * count]
+
+
+def full_books():
+    """By name, a book of the most shades, and that with a byte too many and one too few."""
+    chance, name = Chance(0), f"a book of {SHADE_LIMIT} shades"
+    numbers = range(LAST_SHADE - SHADE_LIMIT + 1, LAST_SHADE + 1)
+    whole = book.book_bytes([(number, any_spectrum(chance)) for number in numbers])
+    return {name: whole, f"{name} and one byte more": whole + b"\0",
+            f"{name} and one byte less": whole[:-1]}
 
 
 # Writes
@@ -152,6 +163,8 @@ def edge_reads(chance):
         number = book.take(full, HEAD + ENTRY * place, 2)
         yield Read(full, number, any_places(chance))
         yield Read(full, number + 1, any_places(chance))
+    for data in full_books().values():
+        yield Read(data, LAST_SHADE, any_places(chance))
     too_many = made(range(1, SHADE_LIMIT + 2))
     yield Read(too_many, 1, any_places(chance))
     pair = made([3, 700])

@@ -12,26 +12,12 @@ uint64_t probe_write(const uint16_t *numbers, size_t numbers_len, const uint16_t
 uint32_t probe_read(const uint8_t *book, size_t book_len, uint16_t number, uint16_t *places,
                     size_t places_len);
 
-/* Room begins where malloc's does, and the guard is even, so 2-byte numbers are aligned. */
-static uint16_t *words(uint8_t *space)
-{
-    return (uint16_t *)(space + GUARD);
-}
-
-static void answer(uint64_t result, uint8_t *left, size_t size)
-{
-    fwrite(&result, sizeof result, 1, stdout);
-    fwrite(left + GUARD, 1, size, stdout);
-    must_be_guarded(left, size);
-    free(left);
-}
-
 static void write_case(size_t count, size_t readings, size_t size)
 {
     uint8_t *numbers = taken(2 * count), *same_numbers = copied(numbers, 2 * count);
     uint8_t *spectra = taken(2 * readings), *same_spectra = copied(spectra, 2 * readings);
     uint8_t *buffer = taken(size);
-    answer(probe_write(words(numbers), count, words(spectra), readings, buffer + GUARD, size),
+    answer(probe_write(inside(numbers), count, inside(spectra), readings, inside(buffer), size),
            buffer, size);
     must_be_kept(numbers, same_numbers, 2 * count);
     must_be_kept(spectra, same_spectra, 2 * readings);
@@ -41,7 +27,7 @@ static void read_case(size_t size, uint16_t number, size_t count)
 {
     uint8_t *book = taken(size), *same_book = copied(book, size);
     uint8_t *places = taken(2 * count);
-    answer(probe_read(book + GUARD, size, number, words(places), count), places, 2 * count);
+    answer(probe_read(inside(book), size, number, inside(places), count), places, 2 * count);
     must_be_kept(book, same_book, size);
 }
 

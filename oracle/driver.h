@@ -1,4 +1,4 @@
-/* What both drivers of oracle/check share: input, and room with guard bytes around it. */
+/* What the drivers of oracle/check share: input, room with guard bytes around it, and answers. */
 
 #include <stdint.h>
 #include <stdio.h>
@@ -22,11 +22,17 @@ static uint8_t *room(size_t size)
     return space;
 }
 
+/* The bytes between the guards. The guard keeps malloc's alignment, so numbers may stand there. */
+static void *inside(uint8_t *space)
+{
+    return space + GUARD;
+}
+
 /* Room filled from standard input. */
 static uint8_t *taken(size_t size)
 {
     uint8_t *space = room(size);
-    if (!take(space + GUARD, size))
+    if (!take(inside(space), size))
         exit(3);
     return space;
 }
@@ -45,6 +51,15 @@ static void must_be_guarded(const uint8_t *space, size_t size)
             fputs("the call wrote outside its buffer\n", stderr);
             exit(4);
         }
+}
+
+/* Says what a call gave back, and what it left in the room that was lent. Frees that. */
+static void answer(uint64_t result, uint8_t *lent, size_t size)
+{
+    fwrite(&result, sizeof result, 1, stdout);
+    fwrite(inside(lent), 1, size, stdout);
+    must_be_guarded(lent, size);
+    free(lent);
 }
 
 /* What a call only reads is as it was, guards included. Frees both. */

@@ -1,6 +1,6 @@
 /* Makes host calls for oracle/check. Each case on standard input is three 4-byte numbers (light,
    spectrum length, buffer length; native byte order), the spectrum's bytes and the
-   buffer's bytes. For each, 4 bytes of result and the buffer's bytes go to standard output.
+   buffer's bytes. For each, 8 bytes of result and the buffer's bytes go to standard output.
    Bytes around the buffer and the spectrum itself must stay as they were. */
 
 #include "driver.h"
@@ -13,13 +13,9 @@ int main(void)
         size_t spectrum_len = head[1], out_len = head[2];
         uint8_t *spectrum = taken(spectrum_len), *kept = copied(spectrum, spectrum_len);
         uint8_t *out = taken(out_len);
-        uint32_t result =
-            shade_colour(head[0], spectrum + GUARD, spectrum_len, out + GUARD, out_len);
-        fwrite(&result, sizeof result, 1, stdout);
-        fwrite(out + GUARD, 1, out_len, stdout);
-        must_be_guarded(out, out_len);
+        answer(shade_colour(head[0], inside(spectrum), spectrum_len, inside(out), out_len), out,
+               out_len);
         must_be_kept(spectrum, kept, spectrum_len);
-        free(out);
     }
     return 0;
 }

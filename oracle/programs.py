@@ -7,6 +7,7 @@ from array import array
 from pathlib import Path
 
 from book_calls import Write
+from records import WORD_BYTES
 
 HERE = Path(__file__).resolve().parent
 ROOT = HERE.parent
@@ -16,6 +17,7 @@ HOST = ROOT / "target/staticlib/libhost.a"
 PROBE = ROOT / "target/staticlib/libprobe.a"
 BUILT_BY = {REPLAY: "rt check", SHADELIST: "rt check", HOST: "rt staticlib host",
             PROBE: "rt staticlib probe"}
+RESULT_BYTES = 8
 
 
 class Failed(Exception):
@@ -61,12 +63,17 @@ class Built:
     def host(self, cases):
         """Result and buffer for each (light, spectrum, out)."""
         data = b"".join(map(host_bytes, cases))
-        return results(drive("host_driver", HOST, data), 4, [len(out) for _, _, out in cases])
+        return results(drive("host_driver", HOST, data), [len(out) for _, _, out in cases])
 
     def book(self, calls):
         """Result and what is left in the buffer or the places, as bytes, for each call."""
         data = b"".join(map(call_bytes, calls))
-        return results(drive("book_driver", PROBE, data), 8, [len(call.lent) for call in calls])
+        return results(drive("book_driver", PROBE, data), [len(call.lent) for call in calls])
+
+    def lists(self, runs):
+        """Result and what is left in the buffer, as bytes, for each list of calls."""
+        data = b"".join(map(run_bytes, runs))
+        return results(drive("run_driver", PROBE, data), [len(run.lent) for run in runs])
 
 
 class StandIn(Built):
@@ -86,9 +93,13 @@ class StandIn(Built):
         from book_calls import answer
         return [answer(call) for call in calls]
 
+    def lists(self, runs):
+        from records import answer
+        return [answer(run) for run in runs]
+
 
 def native(*numbers):
-    return b"".join(number.to_bytes(4, sys.byteorder) for number in numbers)
+    return b"".join(number.to_bytes(WORD_BYTES, sys.byteorder) for number in numbers)
 
 
 def words(numbers):
@@ -107,11 +118,17 @@ def call_bytes(call):
     return native(1, len(call.data), call.number, len(call.lent) // 2) + call.data + call.lent
 
 
-def results(answers, size, lengths):
-    """For each case a result of that size, and as many bytes as were lent."""
+def run_bytes(run):
+    *read, lent = run
+    head = native(*map(len, read), len(lent) // WORD_BYTES)
+    return head + b"".join(part.tobytes() for part in read) + lent
+
+
+def results(answers, lengths):
+    """For each case a driver's result, and as many bytes as were lent."""
     found, at = [], 0
     for length in lengths:
-        left = at + size
+        left = at + RESULT_BYTES
         found.append((int.from_bytes(answers[at:left], sys.byteorder),
                       answers[left:left + length]))
         at = left + length

@@ -1,0 +1,201 @@
+"""Lists of calls held in slices, and their answers, as crates/calls/specs/Records.antt lays them
+out: nine words a call, its tables and spectra as parts of two pools, seventeen words an answer."""
+
+from array import array
+from collections import namedtuple
+
+import replay
+from book import SHORT_BUFFER
+from book_calls import REFUSAL
+from colour import Colour
+from ledger import VERDICTS, Ledger, Refused, Trial
+
+CALL_WORDS, ANSWER_WORDS, COLOUR_WORDS = 9, 17, 13
+OPEN_TABLES, OPEN_LIGHT, STANDARD, TOLERANCE_LAB, TOLERANCE_LUV, TRIAL = range(1, 7)
+ACCEPTED, COLOURED, TRIED, COUNTED, REFUSED = range(5)
+SPACES = ("lab", "luv")
+
+WORD, READING = "I", "H"  # array's letters for 32 and 16 bits
+WORD_BYTES = 4
+WORD_LIMIT = 2**32
+
+# The records and both pools as arrays; the buffer that is lent, as bytes.
+Run = namedtuple("Run", "records tables spectra lent")
+
+
+def any_words(chance, count):
+    return array(WORD, chance.bytes(WORD_BYTES * count))
+
+
+def call_count(run):
+    return len(run.records) // CALL_WORDS
+
+
+def answers_size(run):
+    """In bytes."""
+    return WORD_BYTES * ANSWER_WORDS * call_count(run)
+
+
+def named(run):
+    """What a run is, in few words."""
+    words = run.records[:2 * CALL_WORDS].tolist()
+    return (f"{len(run.records)} words {words}.., {len(run.tables)} entries, {len(run.spectra)} "
+            f"readings, into {len(run.lent)} bytes")
+
+
+# Laying calls out
+
+class Recorder:
+    """Stands in a ledger's place, and writes each call down as a record."""
+
+    def __init__(self, chance):
+        self.chance = chance
+        self.records, self.tables, self.spectra = array(WORD), array(WORD), array(READING)
+
+    def write(self, kind, *words):
+        """Words that a call does not name may hold anything."""
+        unnamed = any_words(self.chance, CALL_WORDS - 1 - len(words))
+        self.records.extend([kind, *words, *unnamed])
+
+    def open_light(self, light):
+        self.write(OPEN_LIGHT, light)
+
+    def open_tables(self, *tables):
+        self.write(OPEN_TABLES, *(word for table in tables for word in put(self.tables, table)))
+
+    def enter_standard(self, spectrum):
+        self.write(STANDARD, *put(self.spectra, spectrum))
+
+    def enter_tolerance(self, space, amount):
+        self.write(TOLERANCE_LAB if space == "lab" else TOLERANCE_LUV, amount)
+
+    def trial(self, spectrum):
+        self.write(TRIAL, *put(self.spectra, spectrum))
+
+    def report(self):
+        self.write(self.chance.pick((0, TRIAL + 1, WORD_LIMIT - 1)))
+
+    def run(self, spare=0):
+        """The list so far, with a buffer that has room for its answers and some words to spare."""
+        held = Run(self.records, self.tables, self.spectra, b"")
+        return held._replace(lent=self.chance.bytes(answers_size(held) + WORD_BYTES * spare))
+
+
+def put(pool, entries):
+    """Puts a table into its pool, and says where it starts and how long it is."""
+    pool.extend(entries)
+    return len(pool) - len(entries), len(entries)
+
+
+def recorded(chance, steps):
+    """The calls of a script's lines as a run, and the steps that are calls."""
+    held, made = Recorder(chance), []
+    for step in steps:
+        try:
+            replay.call(held, step.line)
+        except replay.Unreadable:
+            continue
+        made.append(step)
+    return held.run(chance.pick((0, 1, ANSWER_WORDS, 100))), made
+
+
+# What a run gives back and leaves
+
+def part(pool, start, count):
+    """Nothing where it runs past the end."""
+    return pool[start:start + count] if start + count <= len(pool) else []
+
+
+def call(ledger, run, at):
+    """Makes the call whose record begins at a place."""
+    kind, *words = run.records[at:at + CALL_WORDS]
+    if kind == OPEN_TABLES:
+        return ledger.open_tables(*(part(run.tables, *words[k:k + 2]) for k in (0, 2, 4, 6)))
+    if kind == OPEN_LIGHT:
+        return ledger.open_light(words[0])
+    if kind == STANDARD:
+        return ledger.enter_standard(part(run.spectra, *words[:2]))
+    if kind == TOLERANCE_LAB:
+        return ledger.enter_tolerance("lab", words[0])
+    if kind == TOLERANCE_LUV:
+        return ledger.enter_tolerance("luv", words[0])
+    if kind == TRIAL:
+        return ledger.trial(part(run.spectra, *words[:2]))
+    return ledger.report()
+
+
+def colour_words(own):
+    place = (0, 0, 0) if own.x is None else (1, own.x, own.y)
+    rest = (own.L, own.a, own.b, own.u, own.v, own.chroma_ab, own.chroma_uv)
+    return [value % WORD_LIMIT for value in (own.X, own.Y, own.Z, *place, *rest)]
+
+
+def answer_words(result, space):
+    """The answer of what a call returned, or of its refusal; a trial's E is in that space."""
+    if result is None:
+        words = [ACCEPTED]
+    elif isinstance(result, Refused):
+        words = [REFUSED, result.cause]
+    elif isinstance(result, Trial):
+        words = [TRIED, *colour_words(result.colour), SPACES.index(space), result.difference,
+                 VERDICTS.index(result.verdict)]
+    elif isinstance(result, Colour):
+        words = [COLOURED, *colour_words(result)]
+    else:
+        words = [COUNTED, *result]
+    return words + [0] * (ANSWER_WORDS - len(words))
+
+
+def answer(run):
+    """How many calls are answered, or the refusal, and the buffer's bytes afterwards."""
+    size = answers_size(run)
+    if len(run.lent) < size:
+        return REFUSAL + SHORT_BUFFER, run.lent
+    ledger, words = Ledger(), array(WORD)
+    for number in range(call_count(run)):
+        try:
+            result = call(ledger, run, CALL_WORDS * number)
+        except Refused as refusal:
+            result = refusal
+        words.extend(answer_words(result, ledger.tolerance and ledger.tolerance.space))
+    return call_count(run), words.tobytes() + run.lent[size:]
+
+
+# Taking answers apart
+
+def colour_of(words):
+    X, Y, Z, has_place, x, y, L, *signed, chroma_ab, chroma_uv = words
+    place = (x, y) if has_place else (None, None)
+    a, b, u, v = (word - WORD_LIMIT if word >= WORD_LIMIT // 2 else word for word in signed)
+    return Colour(X, Y, Z, *place, L, a, b, u, v, chroma_ab, chroma_uv)
+
+
+def result_of(words):
+    """What the call returned, or its refusal, and the space of E. Words that are no answer give
+    something whose answer is not these words."""
+    kind, *told = words
+    if kind == COLOURED:
+        return colour_of(told[:COLOUR_WORDS]), None
+    if kind == TRIED:
+        *own, space, E, verdict = told
+        judged = VERDICTS[verdict % len(VERDICTS)]
+        return Trial(judged, E, colour_of(own)), SPACES[space % len(SPACES)]
+    if kind == COUNTED:
+        return tuple(told[:len(VERDICTS)]), None
+    return (Refused(told[0]) if kind == REFUSED else None), None
+
+
+def text(words):
+    """An answer as `replay` says it."""
+    result, space = result_of(words)
+    if answer_words(result, space) != words:
+        return f"no answer: {words}"
+    if isinstance(result, Refused):
+        return f"refused {result.cause}"
+    return replay.answer_text(result)
+
+
+def apart(left):
+    """A buffer's words, answer by answer."""
+    words = array(WORD, left).tolist()
+    return [words[at:at + ANSWER_WORDS] for at in range(0, len(words), ANSWER_WORDS)]
