@@ -31,8 +31,8 @@ abbrev hundredths : ℕ → ℕ → ℕ
 hundredths N D = (2 * (10000 * N) + D) / (2 * D)
 
 -- the white of a light
-abbrev whitePoint : ℕ → List ℕ
-whitePoint light =
+abbrev whiteHundredths : ℕ → List ℕ
+whiteHundredths light =
     let w : Sums = whiteOf (lightTables light) in
     hundredths (w .x) (w .y) ∷ hundredths (w .y) (w .y) ∷ hundredths (w .z) (w .y) ∷ []
 
@@ -43,8 +43,8 @@ sweep =
     ++ pinned observerZ
     ++ pinned illuminantA
     ++ pinned illuminantD65
-    ++ whitePoint lightA
-    ++ whitePoint lightD65
+    ++ whiteHundredths lightA
+    ++ whiteHundredths lightD65
     ++ (at observerZ 465 ∷ at observerX 515 ∷ at observerY 595 ∷ at observerX 610 ∷ [])
 
 pub checked : sweep ≡

@@ -34,7 +34,7 @@ one-more before readings colour e Fail = refl
 one-more before readings colour e OnTheLine = refl
 
 module _ (before : List Event) (l : Ledger) (k : l .counts ≡ verdictsIn before) where
-  -- a call that is no trial, whatever its outcome
+  -- a call that is given no verdict: one that is no trial, or a refused one
   kept : (c : Call) (o : Outcome) → ((p : Verdict → Bool) → given p c o ≡ false) → l .counts ≡ verdictsIn (event c o ∷ before)
   kept c o h = k ∙ uncounted before c o h
 
