@@ -1,5 +1,5 @@
 """Lists of calls held in slices, and their answers, as crates/calls/specs/Records.antt lays them
-out: nine words a call, its tables and spectra as parts of two pools, seventeen words an answer."""
+out: nine words a call, its tables and spectra as parts of two pools, thirty-two words an answer."""
 
 from array import array
 from collections import namedtuple
@@ -10,7 +10,7 @@ from book_calls import REFUSAL
 from colour import Colour
 from ledger import VERDICTS, Ledger, Refused, Trial
 
-CALL_WORDS, ANSWER_WORDS, COLOUR_WORDS = 9, 17, 13
+CALL_WORDS, ANSWER_WORDS, COLOUR_WORDS = 9, 32, 13
 OPEN_TABLES, OPEN_LIGHT, STANDARD, TOLERANCE_LAB, TOLERANCE_LUV, TRIAL = range(1, 7)
 ACCEPTED, COLOURED, TRIED, COUNTED, REFUSED = range(5)
 SPACES = ("lab", "luv")
@@ -177,9 +177,9 @@ def result_of(words):
     if kind == COLOURED:
         return colour_of(told[:COLOUR_WORDS]), None
     if kind == TRIED:
-        *own, space, E, verdict = told
+        space, E, verdict = told[COLOUR_WORDS:COLOUR_WORDS + 3]
         judged = VERDICTS[verdict % len(VERDICTS)]
-        return Trial(judged, E, colour_of(own)), SPACES[space % len(SPACES)]
+        return Trial(judged, E, colour_of(told[:COLOUR_WORDS])), SPACES[space % len(SPACES)]
     if kind == COUNTED:
         return tuple(told[:len(VERDICTS)]), None
     return (Refused(told[0]) if kind == REFUSED else None), None

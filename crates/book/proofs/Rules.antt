@@ -11,7 +11,8 @@ use borrow.Author.Tests.{leb-true, eqb-true, le-leb, lt-leb, eq-eqb, ne-eqb, not
 use Rattle.cie.specs.Scales.{anyAbove, readingLimit}
 use Rattle.endian.specs.Bytes.{at16, words}
 use Rattle.endian.proofs.Words.{length-words, words-within, getD-words}
-use Rattle.book.specs.Book.{magic, headLength, entryLength, bodyLength, mostShades, bodiesAt, total, startsWith, entriesOk, countOf, numbersOf, readingsIn, readingsOf, isBook, spectrumOf}
+use Rattle.book.specs.Book.{magic, headLength, entryLength, bodyLength, mostShades, bodiesAt, total, startsWith, entriesOk, isBook}
+use Rattle.book.specs.Book.{countOf, numbersOf, readingsIn, readingsOf, spectrumOf}
 
 pub and-left : (a b : Bool) → (a && b) ≡ true → a ≡ true
 and-left true b e = refl
@@ -47,7 +48,8 @@ module _ (rows : ℕ) (s : List ℕ) where
     pub wrong-entries : entriesOk rows s headLength 0 (bodiesAt n) n ≡ false → false ≡ isBook rows s
     unfolding isBook
     wrong-entries h =
-        let e : entriesOk rows s headLength 0 (bodiesAt (countOf s)) (countOf s) ≡ false = ap (λ (m : ℕ). entriesOk rows s headLength 0 (bodiesAt m) m) (sym p) ∙ h in
+        let e : entriesOk rows s headLength 0 (bodiesAt (countOf s)) (countOf s) ≡ false =
+        ap (λ (m : ℕ). entriesOk rows s headLength 0 (bodiesAt m) m) (sym p) ∙ h in
         rw (e, and-false (leb headLength (length s) && startsWith magic s && leb (countOf s) mostShades && eqb (length s) (total rows (countOf s))))
 
     pub last-rule : headLength ≤ length s → startsWith magic s ≡ true → n ≤ mostShades → length s ≡ total rows n

@@ -1,19 +1,20 @@
 -- The loops that test: what is left, tested from here, decides as the whole does, since what is passed has passed. Assumes nothing.
 use mathlib.Core.Path.{_≡_, refl, sym, ap, _∙_}
-use mathlib.Core.Bool.{Bool, true, false, _&&_, _||_, not, cond, or-assoc}
+use mathlib.Core.Bool.{Bool, true, false, _&&_, _||_, not, cond}
 use Prim.Native.Nat.{ℕ, suc, _+_, _*_, _≤_, _<_}
 use native.Mathlib.Omega.{arith}
 use native.Mathlib.Nat.{mul-zero}
 use native.Mathlib.Numerals.{add-one}
-use mathlib.Core.List.{List, [], _∷_, _++_}
+use mathlib.Core.List.{List, [], _∷_}
 use lib.ListN.{length, getD, drop, drop-of-length-le}
 use lib.Seq.{drop-cons}
-use lib.Dec.{ltb, eqb}
-use borrow.Author.Tests.{lt-ltb, le-ltb, eq-eqb, ne-eqb, eqb-true, eqb-false, not-true, not-false}
+use lib.Dec.{eqb}
+use borrow.Author.Tests.{lt-ltb, le-ltb, eq-eqb, ne-eqb, not-true, not-false}
 use Rattle.cie.specs.Scales.{anyAbove}
+use Rattle.cie.proofs.Scales.{above-append}
 use Rattle.endian.specs.Bytes.{at16, at32, words}
 use Rattle.endian.proofs.Words.{words-add}
-use Rattle.book.specs.Book.{entryLength, bodyLength, rising, startsWith, entryOk, entriesOk, isIn, indexOf}
+use Rattle.book.specs.Book.{entryLength, bodyLength, startsWith, entryOk, entriesOk, isIn, indexOf}
 
 -- the arms of `if !f(x)`, where f ensures what its result is
 pub fails : {a b : Bool} → a ≡ b → not a ≡ true → b ≡ false
@@ -21,30 +22,6 @@ fails {a} e t = sym e ∙ not-true a t
 
 pub holds : {a b : Bool} → a ≡ b → not a ≡ false → b ≡ true
 holds {a} e t = sym e ∙ not-false a t
-
--- tests of equality that come to the same
-pub eqb-same : (a b c d : ℕ) → (a ≡ b → c ≡ d) → (c ≡ d → a ≡ b) → eqb a b ≡ eqb c d
-eqb-same a b c d f g = go (eqb c d) refl
-  where
-    go : (t : Bool) → eqb c d ≡ t → eqb a b ≡ t
-    go true e = eq-eqb a b (g (eqb-true c d e))
-    go false e = ne-eqb a b (λ h. eqb-false c d e (f h))
-
--- numbers that rise
-module _ (l : List ℕ) (i before : ℕ) (h : i < length l) where
-  rising-first : rising before (drop i l) ≡ (ltb before (getD l i 0) && rising (getD l i 0) (drop (i + 1) l))
-  unfolding rising
-  rising-first = rw (add-one, drop-cons l i 0 h)
-
-  pub rising-on : before < getD l i 0 → rising (getD l i 0) (drop (i + 1) l) ≡ rising before (drop i l)
-  rising-on k = rw (rising-first, lt-ltb before (getD l i 0) k)
-
-  pub rising-off : getD l i 0 ≤ before → false ≡ rising before (drop i l)
-  rising-off k = rw (rising-first, le-ltb before (getD l i 0) k)
-
-pub rising-end : (l : List ℕ) (i before : ℕ) → length l ≤ i → true ≡ rising before (drop i l)
-unfolding rising
-rising-end l i before h = rw (drop-of-length-le l h)
 
 -- bytes that begin with a text
 module _ (p s : List ℕ) (i : ℕ) (h : i < length p) (k : i < length s) where
@@ -75,7 +52,8 @@ module _ (rows : ℕ) (s : List ℕ) (at before offset : ℕ) {k : ℕ} (p : k �
 
     pub entry-last : l ≡ bodyLength rows → {o : ℕ} → o ≡ at32 s (at + 4) → eqb o offset ≡ entryOk rows s at before offset
     unfolding entryOk
-    entry-last g {o} r = rw (lt-ltb before (at16 s at) (omega arith), eq-eqb (at16 s (at + 2)) (bodyLength rows) (sym q ∙ g)) (ap (λ (x : ℕ). eqb x offset) r)
+    entry-last g {o} r =
+        rw (lt-ltb before (at16 s at) (omega arith), eq-eqb (at16 s (at + 2)) (bodyLength rows) (sym q ∙ g)) (ap (λ (x : ℕ). eqb x offset) r)
 
 -- the entries
 module _ (rows : ℕ) (s : List ℕ) (at before offset m : ℕ) {n : ℕ} (more : n ≡ suc m) where
@@ -96,12 +74,6 @@ unfolding entriesOk
 entries-end rows s at before offset n h = let e : n ≡ 0 = omega arith in rw e
 
 -- readings above a limit, body by body
-above-append : (limit : ℕ) (xs ys : List ℕ) → anyAbove limit (xs ++ ys) ≡ (anyAbove limit xs || anyAbove limit ys)
-unfolding anyAbove
-above-append limit [] ys = refl
-above-append limit (x ∷ xs) ys =
-    ap (λ (t : Bool). ltb limit x || t) (above-append limit xs ys) ∙ sym (or-assoc (ltb limit x) (anyAbove limit xs) (anyAbove limit ys))
-
 module _ (limit rows : ℕ) (s : List ℕ) (at m : ℕ) {n : ℕ} (more : n ≡ suc m) where
   bodies-first : anyAbove limit (words s at 2 (rows * n)) ≡ (anyAbove limit (words s at 2 rows) || anyAbove limit (words s (at + bodyLength rows) 2 (rows * m)))
   bodies-first =
@@ -109,7 +81,8 @@ module _ (limit rows : ℕ) (s : List ℕ) (at m : ℕ) {n : ℕ} (more : n ≡ 
       ap (λ (k : ℕ). anyAbove limit (words s at 2 k)) e ∙ ap (anyAbove limit) (words-add s rows (rows * m) at 2)
       ∙ above-append limit (words s at 2 rows) (words s (at + bodyLength rows) 2 (rows * m))
 
-  pub bodies-on : anyAbove limit (words s at 2 rows) ≡ false → anyAbove limit (words s (at + bodyLength rows) 2 (rows * m)) ≡ anyAbove limit (words s at 2 (rows * n))
+  pub bodies-on : anyAbove limit (words s at 2 rows) ≡ false
+      → anyAbove limit (words s (at + bodyLength rows) 2 (rows * m)) ≡ anyAbove limit (words s at 2 (rows * n))
   bodies-on h = rw (bodies-first, h)
 
   pub bodies-off : anyAbove limit (words s at 2 rows) ≡ true → true ≡ anyAbove limit (words s at 2 (rows * n))

@@ -10,7 +10,8 @@ use borrow.Author.Tests.{eqb-true}
 use Rattle.endian.specs.Bytes.{le16, le32, at16, at32, part, words, bytesOf, AllBelow}
 use Rattle.endian.proofs.Parts.{littleEndian-numberAt, part-join, part-none, part-whole}
 use Rattle.endian.proofs.Words.{length-words, bytesOf-words}
-use Rattle.book.specs.Book.{magic, countPlace, headLength, entryLength, bodyLength, bodiesAt, startsWith, entryOf, contentsOf, bookOf, entryOk, entriesOk, countOf, numbersOf, readingsIn, readingsOf, isBook}
+use Rattle.book.specs.Book.{magic, countPlace, headLength, entryLength, bodyLength, bodiesAt, startsWith, entryOf, contentsOf, bookOf}
+use Rattle.book.specs.Book.{entryOk, entriesOk, countOf, numbersOf, readingsIn, readingsOf, isBook}
 use Rattle.book.proofs.Rules.{and-left, and-right, rules}
 
 starts-front : (p s : List ℕ) → startsWith p s ≡ true → take (length p) s ≡ p
@@ -30,7 +31,8 @@ module _ (rows : ℕ) (s : List ℕ) (b : AllBelow 256 s) where
       let p = eqb-true (at16 s (at + 2)) (bodyLength rows) (and-right (ltb before (at16 s at)) b₂ e) in
       let q = eqb-true (at32 s (at + 4)) o (and-right (ltb before (at16 s at) && b₂) b₃ t) in
       let e₁ : le16 (bodyLength rows) ≡ part s (at + 2) 2 = ap le16 (sym p) ∙ littleEndian-numberAt s b 2 (at + 2) (omega arith) in
-      let e₂ : le32 o ≡ part s (at + 2 + 2) 4 = ap le32 (sym q) ∙ littleEndian-numberAt s b 4 (at + 4) (omega arith) ∙ ap (λ (i : ℕ). part s i 4) (omega arith) in
+      let e₂ : le32 o ≡ part s (at + 2 + 2) 4 =
+      ap le32 (sym q) ∙ littleEndian-numberAt s b 4 (at + 4) (omega arith) ∙ ap (λ (i : ℕ). part s i 4) (omega arith) in
       rw (littleEndian-numberAt s b 2 at (omega arith), e₁, e₂, part-join s (at + 2) 2 4) (part-join s at 2 6)
 
   contents-part : (n at before o : ℕ) → at + entryLength * n ≤ length s → entriesOk rows s at before o n ≡ true
@@ -40,7 +42,10 @@ module _ (rows : ℕ) (s : List ℕ) (b : AllBelow 256 s) where
   contents-part (suc n) at before o h t =
       let e = entryOk rows s at before o in
       let rest = entriesOk rows s (at + entryLength) (at16 s at) (o + bodyLength rows) n in
-      rw (entry-part at before o (omega arith) (and-left e rest t), contents-part n (at + entryLength) (at16 s at) (o + bodyLength rows) (omega arith) (and-right e rest t))
+      rw (
+        entry-part at before o (omega arith) (and-left e rest t),
+        contents-part n (at + entryLength) (at16 s at) (o + bodyLength rows) (omega arith) (and-right e rest t),
+      )
       (part-join s at entryLength (entryLength * n) ∙ ap (part s at) (omega arith))
 
   joined : (m c k e : List ℕ) (x y : ℕ) → m ≡ part s 0 countPlace → c ≡ part s countPlace 2 → k ≡ part s headLength x → e ≡ part s (headLength + x) y
@@ -56,11 +61,13 @@ module _ (rows : ℕ) (s : List ℕ) (b : AllBelow 256 s) where
   book-of-shades t =
       let r = rules rows s t in
       let n : ℕ = countOf s in
-      let l : length (words s headLength entryLength n) ≡ n = length-words s headLength entryLength n in
-      let k : contentsOf rows (bodiesAt n) (words s headLength entryLength n) ≡ part s headLength (entryLength * n) =
+      let numbers : List ℕ = words s headLength entryLength n in
+      let readings : List ℕ = words s (bodiesAt n) 2 (rows * n) in
+      let l : length numbers ≡ n = length-words s headLength entryLength n in
+      let k : contentsOf rows (bodiesAt n) numbers ≡ part s headLength (entryLength * n) =
       contents-part n headLength 0 (bodiesAt n) (omega (arith, r .whole)) (r .entries) in
-      let e : bytesOf (words s (bodiesAt n) 2 (rows * n)) ≡ part s (bodiesAt n) (2 * (rows * n)) = bytesOf-words s b (rows * n) (bodiesAt n) (omega (arith, r .whole)) in
+      let e : bytesOf readings ≡ part s (bodiesAt n) (2 * (rows * n)) = bytesOf-words s b (rows * n) (bodiesAt n) (omega (arith, r .whole)) in
       let z : length s ≡ countPlace + (2 + (entryLength * n + 2 * (rows * n))) = omega (arith, r .whole) in
       sym (part-whole s) ∙ ap (part s 0) z
-      ∙ sym (rw l (joined magic (le16 n) (contentsOf rows (bodiesAt n) (words s headLength entryLength n)) (bytesOf (words s (bodiesAt n) 2 (rows * n))) (entryLength * n) (2 * (rows * n))
+      ∙ sym (rw l (joined magic (le16 n) (contentsOf rows (bodiesAt n) numbers) (bytesOf readings) (entryLength * n) (2 * (rows * n))
       (magic-part (r .begins)) (littleEndian-numberAt s b 2 countPlace (r .long)) k e))

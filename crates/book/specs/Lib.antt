@@ -1,3 +1,3 @@
 pub mod Book
-pub mod Calls
+pub mod Reading
 pub mod Claims

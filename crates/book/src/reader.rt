@@ -6,6 +6,7 @@ use super::layout::HEAD;
 use super::layout::MAGIC;
 use super::layout::MOST_SHADES;
 use super::layout::ROWS;
+use cie::spectrum::READING_LIMIT;
 ghost use mathlib.Core.Path.{_≡_};
 ghost use mathlib.Core.Bool.{true};
 ghost use Prim.Native.Nat.{_+_, _≤_, _<_};
@@ -71,7 +72,7 @@ fn body_over_bright(s: &[u8], at: usize) -> bool
 {
     let mut spectrum = [0u16; ROWS];
     endian::read_words(s, at, &mut spectrum);
-    cie::spectrum::over_bright(&spectrum)
+    cie::spectrum::over_bright(&spectrum, READING_LIMIT)
 }
 
 // Whether a reading of the n bodies is over-bright.

@@ -1,65 +1,66 @@
--- The call of a record, by its first word: the code asks for the kinds in the order of the definition, so a call that meets its contract meets
--- that of the record's call. Assumes nothing.
-use mathlib.Core.Path.{_≡_, sym, ap, subst}
+-- The call of a record, by its first word: in the code's arm for a kind, the definition is the call that the arm makes. Assumes nothing.
+use mathlib.Core.Path.{_≡_, refl, sym, ap, subst, _∙_}
 use mathlib.Core.List.{List}
-use Prim.Native.Nat.{ℕ, _+_}
-use borrow.Author.Tests.{eq-eqb, ne-eqb}
+use Prim.Native.Nat.{ℕ}
+use borrow.Author.Tests.{ne-eqb}
 use Rattle.cie.specs.declared.Space.the-variants.{Cielab, Cieluv}
 use Rattle.cie.specs.Sums.{tablesOf}
 use Rattle.session.specs.declared.Session.{Session}
 use Rattle.session.specs.declared.Served.{Served}
 use Rattle.session.specs.Call.{Call, open-tables, open-light, set-standard, set-tolerance, trial, report}
 use Rattle.session.specs.Meets.{Meets}
-use Rattle.calls.specs.Records.{wordAt, partAt, callAt}
+use Rattle.calls.specs.Records.{wordAt, partAt, tablesAt, callOfKind, callOf}
 
-module _ (s : Session) (r : Served) where
-  meets-as : {k k′ : Call} → k′ ≡ k → Meets s k r → Meets s k′ r
-  meets-as e m = subst (λ (k : Call). Meets s k r) (sym e) m
+-- the first word of a record, as it is read
+pub record Kind (words tables spectra : List ℕ) (kind : ℕ) : Type 0 where
+  pub first : kind ≡ wordAt words 0
 
-  module _ (records tables spectra : List ℕ) (at : ℕ) where
-    abbrev kind : ℕ
-    kind = wordAt records at
+module _ {s : Session} {r : Served} where
+  meets-as : {c c′ : Call} → c ≡ c′ → Meets s c r → Meets s c′ r
+  meets-as e m = subst (λ (c : Call). Meets s c r) e m
 
-    abbrev Met : Type 0
-    Met = Meets s (callAt records tables spectra at) r
+  pub opens-tables : (pool words : List ℕ) {i x y z : List ℕ}
+      → i ≡ partAt pool words 1 → x ≡ partAt pool words 3 → y ≡ partAt pool words 5 → z ≡ partAt pool words 7
+      → Meets s (open-tables (tablesOf i x y z)) r → Meets s (open-tables (tablesAt pool words)) r
+  opens-tables pool words p q u v m = meets-as (λ j. open-tables (tablesOf (p j) (q j) (u j) (v j))) m
 
-    pub opens-tables : {i x y z : List ℕ} → kind ≡ 1
-        → i ≡ partAt tables records (at + 1) (at + 2) → x ≡ partAt tables records (at + 3) (at + 4) → y ≡ partAt tables records (at + 5) (at + 6) → z ≡ partAt tables records (at + 7) (at + 8)
-        → Meets s (open-tables (tablesOf i x y z)) r → Met
-    unfolding callAt
-    opens-tables e p q u v m = meets-as (simp (eq-eqb kind 1 e) (λ j. open-tables (tablesOf (sym p j) (sym q j) (sym u j) (sym v j)))) m
+  module _ {words tables spectra : List ℕ} {kind : ℕ} (k : Kind words tables spectra kind) where
+    -- the call of the kind n, which the arm makes
+    of-kind : (n : ℕ) {c : Call} → kind ≡ n → c ≡ callOfKind n words tables spectra → Meets s c r → Meets s (callOf words tables spectra) r
+    of-kind n e d m = meets-as (d ∙ ap (λ (x : ℕ). callOfKind x words tables spectra) (sym e ∙ k .first)) m
 
-    module _ (n₁ : kind ≡ 1 → ⊥) where
-      pub opens-light : kind ≡ 2 → Meets s (open-light (wordAt records (at + 1))) r → Met
-      unfolding callAt
-      opens-light e m = meets-as (simp (ne-eqb kind 1 n₁, eq-eqb kind 2 e)) m
+    pub by-tables : kind ≡ 1 → Meets s (open-tables (tablesAt tables words)) r → Meets s (callOf words tables spectra) r
+    unfolding callOfKind
+    by-tables e m = of-kind 1 e refl m
 
-      module _ (n₂ : kind ≡ 2 → ⊥) where
-        pub sets-standard : {readings : List ℕ} → kind ≡ 3 → readings ≡ partAt spectra records (at + 1) (at + 2) → Meets s (set-standard readings) r → Met
-        unfolding callAt
-        sets-standard e p m = meets-as (simp (ne-eqb kind 1 n₁, ne-eqb kind 2 n₂, eq-eqb kind 3 e) (ap set-standard (sym p))) m
+    pub by-light : {light : ℕ} → kind ≡ 2 → light ≡ wordAt words 1 → Meets s (open-light light) r → Meets s (callOf words tables spectra) r
+    unfolding callOfKind
+    by-light e p m = of-kind 2 e (ap open-light p) m
 
-        module _ (n₃ : kind ≡ 3 → ⊥) where
-          pub sets-lab : kind ≡ 4 → Meets s (set-tolerance Cielab (wordAt records (at + 1))) r → Met
-          unfolding callAt
-          sets-lab e m = meets-as (simp (ne-eqb kind 1 n₁, ne-eqb kind 2 n₂, ne-eqb kind 3 n₃, eq-eqb kind 4 e)) m
+    pub by-standard : {readings : List ℕ} → kind ≡ 3 → readings ≡ partAt spectra words 1 → Meets s (set-standard readings) r
+        → Meets s (callOf words tables spectra) r
+    unfolding callOfKind
+    by-standard e p m = of-kind 3 e (ap set-standard p) m
 
-          module _ (n₄ : kind ≡ 4 → ⊥) where
-            pub sets-luv : kind ≡ 5 → Meets s (set-tolerance Cieluv (wordAt records (at + 1))) r → Met
-            unfolding callAt
-            sets-luv e m = meets-as (simp (ne-eqb kind 1 n₁, ne-eqb kind 2 n₂, ne-eqb kind 3 n₃, ne-eqb kind 4 n₄, eq-eqb kind 5 e)) m
+    pub by-lab : {amount : ℕ} → kind ≡ 4 → amount ≡ wordAt words 1 → Meets s (set-tolerance Cielab amount) r
+        → Meets s (callOf words tables spectra) r
+    unfolding callOfKind
+    by-lab e p m = of-kind 4 e (ap (set-tolerance Cielab) p) m
 
-            module _ (n₅ : kind ≡ 5 → ⊥) where
-              pub tries : {readings : List ℕ} → kind ≡ 6 → readings ≡ partAt spectra records (at + 1) (at + 2) → Meets s (trial readings) r → Met
-              unfolding callAt
-              tries e p m =
-                  meets-as
-                  (simp (ne-eqb kind 1 n₁, ne-eqb kind 2 n₂, ne-eqb kind 3 n₃, ne-eqb kind 4 n₄, ne-eqb kind 5 n₅, eq-eqb kind 6 e) (ap trial (sym p)))
-                  m
+    pub by-luv : {amount : ℕ} → kind ≡ 5 → amount ≡ wordAt words 1 → Meets s (set-tolerance Cieluv amount) r
+        → Meets s (callOf words tables spectra) r
+    unfolding callOfKind
+    by-luv e p m = of-kind 5 e (ap (set-tolerance Cieluv) p) m
 
-              pub reports : (kind ≡ 6 → ⊥) → Meets s report r → Met
-              unfolding callAt
-              reports n₆ m =
-                  meets-as
-                  (simp (ne-eqb kind 1 n₁, ne-eqb kind 2 n₂, ne-eqb kind 3 n₃, ne-eqb kind 4 n₄, ne-eqb kind 5 n₅, ne-eqb kind 6 n₆))
-                  m
+    pub by-trial : {readings : List ℕ} → kind ≡ 6 → readings ≡ partAt spectra words 1 → Meets s (trial readings) r
+        → Meets s (callOf words tables spectra) r
+    unfolding callOfKind
+    by-trial e p m = of-kind 6 e (ap trial p) m
+
+    pub by-report : (kind ≡ 1 → ⊥) → (kind ≡ 2 → ⊥) → (kind ≡ 3 → ⊥) → (kind ≡ 4 → ⊥) → (kind ≡ 5 → ⊥) → (kind ≡ 6 → ⊥)
+        → Meets s report r → Meets s (callOf words tables spectra) r
+    unfolding callOfKind
+    by-report n₁ n₂ n₃ n₄ n₅ n₆ m =
+        of-kind kind refl
+        (simp (ne-eqb kind 1 n₁, ne-eqb kind 2 n₂, ne-eqb kind 3 n₃, ne-eqb kind 4 n₄, ne-eqb kind 5 n₅, ne-eqb kind 6 n₆))
+        m

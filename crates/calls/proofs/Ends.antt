@@ -36,6 +36,7 @@ module _ (records tables spectra buffer : List ℕ) where
   after-short h = fires _ _ _ _ _ (short records (length buffer) h)
 
   pub after-answered : callCount records * answerWords ≤ length buffer
-      → answersAfter records tables spectra buffer ≡ answerRecords (outcomesAt emptyLedger (callsIn records tables spectra)) ++ drop (answerWords * callCount records) buffer
+      → answersAfter records tables spectra buffer
+      ≡ answerRecords (outcomesAt emptyLedger (callsIn records tables spectra)) ++ drop (answerWords * callCount records) buffer
   unfolding answersAfter
   after-answered h = passes _ _ _ _ _ (wide records (length buffer) h) ∙ ends _ _

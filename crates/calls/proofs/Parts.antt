@@ -1,21 +1,38 @@
--- A part of a pool: the code's two tests are those of the definition, so what it lends is that part, or nothing. Assumes nothing.
-use mathlib.Core.Path.{_≡_, ap}
+-- A part of a pool: the code's test is that of the definition, so what it lends is that part, or nothing. Assumes nothing.
+use mathlib.Core.Path.{_≡_, ap, subst, _∙_}
 use mathlib.Core.List.{List, []}
-use Prim.Native.Nat.{ℕ, _+_, _-_, _≤_, _<_}
+use Prim.Native.Nat.{ℕ, _+_, _≤_, _<_}
 use native.Mathlib.Nat.{add-sub-cancel-left}
+use native.Mathlib.Omega.{arith}
 use borrow.Author.Tests.{le-leb, lt-leb}
 use lib.ListN.{length, take, drop}
-use Rattle.calls.specs.Records.{partOf}
+use Rattle.calls.specs.Records.{partOf, Lies}
 
 module _ (pool : List ℕ) (start count : ℕ) where
-  pub part-within : start ≤ length pool → count ≤ length pool - start → take (start + count - start) (drop start pool) ≡ partOf pool start count
+  part-inside : start + count ≤ length pool → take count (drop start pool) ≡ partOf pool start count
   unfolding partOf
-  part-within h k = simp (le-leb _ _ h, le-leb _ _ k) (ap (λ (n : ℕ). take n (drop start pool)) (add-sub-cancel-left start count))
+  part-inside h = simp (le-leb _ _ h)
 
-  pub part-longer : start ≤ length pool → length pool - start < count → [] ≡ partOf pool start count
-  unfolding partOf
-  part-longer h k = simp (le-leb _ _ h, lt-leb _ _ k)
-
-  pub part-outside : length pool < start → [] ≡ partOf pool start count
+  part-outside : length pool < start + count → [] ≡ partOf pool start count
   unfolding partOf
   part-outside h = simp (lt-leb _ _ h)
+
+module _ (start count room : ℕ) where
+  inside : start + count ≤ room → Lies start count room start (start + count)
+  inside h =
+      record {
+        order = omega arith;
+        within = h;
+        between = λ pool e. ap (λ (n : ℕ). take n (drop start pool)) (add-sub-cancel-left start count) ∙ part-inside pool start count (omega arith);
+      }
+
+  outside : room < start + count → Lies start count room 0 0
+  outside h = record { order = omega arith; within = omega arith; between = λ pool e. part-outside pool start count (omega arith) }
+
+-- the two words, as they are read
+module _ {start count room a b : ℕ} (p : a ≡ start) (q : b ≡ count) where
+  pub stands-inside : a + b ≤ room → Lies start count room a (a + b)
+  stands-inside h = subst (λ (n : ℕ). Lies n count room a (a + b)) p (subst (λ (n : ℕ). Lies a n room a (a + b)) q (inside a b room h))
+
+  pub stands-outside : room < a + b → Lies start count room 0 0
+  stands-outside h = outside start count room (omega arith)

@@ -1,29 +1,21 @@
--- The turns of the two loops that store: what is left, stored from here, gives the whole, so nothing is added at the end of what is stored.
--- Assumes nothing.
-use mathlib.Core.Path.{_≡_, refl, sym, ap, _∙_}
+-- The turns of a run: what is left, stored from here, gives the whole, so nothing is added at the end of what is stored. Assumes nothing.
+use mathlib.Core.Path.{_≡_, refl, sym, ap, subst, _∙_}
 use mathlib.Core.List.{List, [], _∷_, _++_}
 use Prim.Native.Nat.{ℕ, zero, suc, _+_, _-_, _*_, _≤_, _<_}
 use native.Mathlib.Omega.{arith}
-use native.Mathlib.Numerals.{add-one}
-use lib.ListN.{length, getD, take, drop, set, length-append, drop-of-length-le}
-use lib.Seq.{sets, drop-cons}
+use lib.ListN.{length, take, drop, length-append, length-drop}
+use lib.Seq.{sets, take-all}
 use Rattle.session.specs.declared.Session.{Session}
 use Rattle.session.specs.declared.Served.{Served}
 use Rattle.session.specs.Call.{Call}
 use Rattle.session.specs.Outcome.{Outcome}
 use Rattle.session.specs.Ledger.{Ledger, emptyLedger, entered, outcomesAt}
 use Rattle.session.specs.Served.{outcomeOf, freshSession, Valid}
-use Rattle.session.specs.Meets.{Meets, sessionOf}
-use Rattle.endian.proofs.Stores.{sets-then, sets-part, sets-front}
-use Rattle.calls.specs.Records.{callWords, answerWords, callAt, callsFrom, callCount, answerRecord, answerRecords}
+use Rattle.session.specs.Stands.{sessionOf}
+use Rattle.session.specs.Meets.{Meets}
+use Rattle.stores.proofs.Runs.{sets-then, sets-part, sets-front}
+use Rattle.calls.specs.Records.{callWords, answerWords, callOf, callAt, callsFrom, callCount, answerRecord, answerRecords}
 use Rattle.calls.proofs.Laid.{length-answer}
-
--- one turn of the loop that stores words, and its end
-pub words-store : (d words : List ℕ) (i : ℕ) → i < length words → sets (set d i (getD words i 0)) (i + 1) (drop (i + 1) words) ≡ sets d i (drop i words)
-words-store d words i h = rw (drop-cons words i 0 h, add-one)
-
-pub words-stored : (d words : List ℕ) (i : ℕ) → length words ≤ i → sets d i (drop i words) ≡ d
-words-stored d words i h = rw (drop-of-length-le words h)
 
 -- the calls from a place are the one there and those after it
 calls-more : (n m : ℕ) (records tables spectra : List ℕ) (at : ℕ) → n ≡ suc m
@@ -41,7 +33,9 @@ module _ (records tables spectra : List ℕ) where
   answersFrom l n at = answerRecords (outcomesAt l (callsFrom n records tables spectra at))
 
   answers-more : (l : Ledger) (n m at : ℕ) → n ≡ suc m
-      → answersFrom l n at ≡ answerRecord (entered l (callAt records tables spectra at) .outcome) ++ answersFrom (entered l (callAt records tables spectra at) .ledger) m (at + callWords)
+      → answersFrom l n at
+      ≡ answerRecord (entered l (callAt records tables spectra at) .outcome)
+      ++ answersFrom (entered l (callAt records tables spectra at) .ledger) m (at + callWords)
   unfolding answerRecords
   answers-more l n m at e = ap (λ (cs : List Call). answerRecords (outcomesAt l cs)) (calls-more n m records tables spectra at e)
 
@@ -57,6 +51,10 @@ module _ (records tables spectra : List ℕ) where
       ap length (answers-more l (suc n) n at refl) ∙ length-append (answerRecord o) (answersFrom next n (at + callWords))
       ∙ omega (arith, length-answer o, length-answers next n (at + callWords))
 
+  -- the rest of the records, as it is lent, is the rest
+  rest-lent : (at : ℕ) → take (length records - at) (drop at records) ≡ drop at records
+  rest-lent at = take-all (length records - at) (drop at records) (omega (arith, length-drop at records))
+
   -- where a run stands: some ledger that the session stands for, whose answers to the calls left, stored from here, give those to the whole list
   -- stored into the buffer as it was
   module _ (before : List ℕ) where
@@ -71,13 +69,14 @@ module _ (records tables spectra : List ℕ) where
 
     -- k is the length of the part that is lent, ys what the writer leaves there
     pub along-next : {from to left : ℕ} {buffer : List ℕ} {s : Session} {r : Served} (k : ℕ) (ys : List ℕ) → Along from to left buffer s → 0 < left
-        → Meets s (callAt records tables spectra from) r → to ≤ length buffer → length buffer - to ≡ k
+        → Meets s (callOf (take (length records - from) (drop from records)) tables spectra) r → to ≤ length buffer → length buffer - to ≡ k
         → ys ≡ sets (take k (drop to buffer)) 0 (answerRecord (outcomeOf (r .answer)))
         → Along (from + callWords) (to + answerWords) (left - 1) (take to buffer ++ (ys ++ drop k (drop to buffer))) (r .session)
-    along-next {from} {to} {left} {buffer} k ys a h m f g q =
+    along-next {from} {to} {left} {buffer} {s} {r} k ys a h made f g q =
         let l : Ledger = a .ledger in
         let c : Call = callAt records tables spectra from in
         let o : Outcome = entered l c .outcome in
+        let m : Meets s c r = subst (λ (words : List ℕ). Meets s (callOf words tables spectra) r) (rest-lent from) made in
         let more : List ℕ = answersFrom (entered l c .ledger) (left - 1) (from + callWords) in
         record {
           valid = m .valid;
@@ -92,7 +91,8 @@ module _ (records tables spectra : List ℕ) where
               ∙ a .rest;
         }
 
-    pub along-end : {from to left : ℕ} {buffer : List ℕ} {s : Session} → Along from to left buffer s → left ≤ 0 → callCount records * answerWords ≤ length before
+    pub along-end : {from to left : ℕ} {buffer : List ℕ} {s : Session} → Along from to left buffer s → left ≤ 0
+        → callCount records * answerWords ≤ length before
         → buffer ≡ answersFrom emptyLedger (callCount records) 0 ++ drop (answerWords * callCount records) before
     along-end {from} {to} {left} {buffer} a h f =
         let whole : List ℕ = answersFrom emptyLedger (callCount records) 0 in

@@ -8,9 +8,10 @@
 --   5  tolerance in CIELUV: the amount (word 1)
 --   6  trial: its readings, as a part of the pool of spectra (words 1 2)
 --   any other number: report
--- Words that a call does not name may hold anything. A part that runs past the end of its pool is a table of length 0.
+-- Words that a call does not name may hold anything. A part that runs past the end of its pool is a table of length 0. A record that ends early
+-- counts as one that goes on with zeros.
 --
--- An answer is seventeen words. The first says what it is:
+-- An answer is thirty-two words. The first says what it is:
 --   0  accepted
 --   1  a colour: words 1 to 13
 --   2  a trial: its colour (1 to 13), the space of E (14: 0 is CIELAB, 1 is CIELUV), E (15), the verdict (16: 0 is pass, 1 is fail, 2 is on the line)
@@ -18,9 +19,10 @@
 --   4  refused: the cause (1)
 -- A colour is X, Y, Z, whether it has a chromaticity (1 or 0), x, y (0 where it has none), L, a, b, u, v, CIELAB chroma, CIELUV chroma; a, b, u
 -- and v are signed, in two's complement. Words that an answer does not name are 0.
+use mathlib.Core.Path.{_≡_}
 use mathlib.Core.Bool.{cond}
 use mathlib.Core.List.{List, [], _∷_, _++_}
-use Prim.Native.Nat.{ℕ, zero, suc, _+_, _-_, _/_}
+use Prim.Native.Nat.{ℕ, zero, suc, _+_, _-_, _/_, _≤_}
 use lib.Dec.{leb, eqb}
 use lib.ListN.{length, getD, take, drop, replicate}
 use Rattle.endian.specs.Bytes.{twos}
@@ -31,7 +33,7 @@ use Rattle.cie.specs.declared.Space.{Space}
 use Rattle.cie.specs.declared.Space.the-variants.{Cielab, Cieluv}
 use Rattle.cie.specs.declared.Verdict.{Verdict}
 use Rattle.cie.specs.declared.Verdict.the-variants.{Pass, Fail, OnTheLine}
-use Rattle.cie.specs.Sums.{tablesOf}
+use Rattle.cie.specs.Sums.{Tables, tablesOf}
 use Rattle.session.specs.Call.{Call, open-tables, open-light, set-standard, set-tolerance, trial, report}
 use Rattle.session.specs.Outcome.{Outcome, accepted, coloured, tried, counted, refused}
 
@@ -39,36 +41,48 @@ abbrev pub callWords : ℕ
 callWords = 9
 
 abbrev pub answerWords : ℕ
-answerWords = 17
+answerWords = 32
 
 -- a part of a pool, or nothing where it runs past the end
 unfoldable pub partOf : List ℕ → ℕ → ℕ → List ℕ
-partOf pool start count = cond (leb start (length pool)) (cond (leb count (length pool - start)) (take count (drop start pool)) []) []
+partOf pool start count = cond (leb (start + count) (length pool)) (take count (drop start pool)) []
 
--- a word of the records
+-- where that part stands: in every pool of that length it is what lies between two places
+pub record Lies (start count room from to : ℕ) : Type 0 where
+  pub order : from ≤ to
+  pub within : to ≤ room
+  pub between : (pool : List ℕ) → length pool ≡ room → take (to - from) (drop from pool) ≡ partOf pool start count
+
+-- a word of a record
 abbrev pub wordAt : List ℕ → ℕ → ℕ
-wordAt records i = getD records i 0
+wordAt words i = getD words i 0
 
--- the part of a pool that two words of the records name
-abbrev pub partAt : List ℕ → List ℕ → ℕ → ℕ → List ℕ
-partAt pool records i j = partOf pool (wordAt records i) (wordAt records j)
+-- the part of a pool that two words of a record name, one after the other
+abbrev pub partAt : List ℕ → List ℕ → ℕ → List ℕ
+partAt pool words i = partOf pool (wordAt words i) (wordAt words (i + 1))
+
+-- the tables that a record names
+abbrev pub tablesAt : List ℕ → List ℕ → Tables
+tablesAt pool words = tablesOf (partAt pool words 1) (partAt pool words 3) (partAt pool words 5) (partAt pool words 7)
+
+-- the call of a kind, with the other words of its record
+unfoldable pub callOfKind : ℕ → List ℕ → List ℕ → List ℕ → Call
+callOfKind kind words tables spectra =
+    cond (eqb kind 1) (open-tables (tablesAt tables words))
+    (cond (eqb kind 2) (open-light (wordAt words 1))
+    (cond (eqb kind 3) (set-standard (partAt spectra words 1))
+    (cond (eqb kind 4) (set-tolerance Cielab (wordAt words 1))
+    (cond (eqb kind 5) (set-tolerance Cieluv (wordAt words 1))
+    (cond (eqb kind 6) (trial (partAt spectra words 1))
+    report)))))
+
+-- the call of a record
+abbrev pub callOf : List ℕ → List ℕ → List ℕ → Call
+callOf words tables spectra = callOfKind (wordAt words 0) words tables spectra
 
 -- the call whose record begins at a place
-unfoldable pub callAt : List ℕ → List ℕ → List ℕ → ℕ → Call
-callAt records tables spectra at =
-    cond (eqb (wordAt records at) 1)
-    (open-tables
-    (tablesOf
-    (partAt tables records (at + 1) (at + 2))
-    (partAt tables records (at + 3) (at + 4))
-    (partAt tables records (at + 5) (at + 6))
-    (partAt tables records (at + 7) (at + 8))))
-    (cond (eqb (wordAt records at) 2) (open-light (wordAt records (at + 1)))
-    (cond (eqb (wordAt records at) 3) (set-standard (partAt spectra records (at + 1) (at + 2)))
-    (cond (eqb (wordAt records at) 4) (set-tolerance Cielab (wordAt records (at + 1)))
-    (cond (eqb (wordAt records at) 5) (set-tolerance Cieluv (wordAt records (at + 1)))
-    (cond (eqb (wordAt records at) 6) (trial (partAt spectra records (at + 1) (at + 2)))
-    report)))))
+abbrev pub callAt : List ℕ → List ℕ → List ℕ → ℕ → Call
+callAt records tables spectra at = callOf (drop at records) tables spectra
 
 -- so many calls, from a place on
 unfoldable pub callsFrom : ℕ → List ℕ → List ℕ → List ℕ → ℕ → List Call
@@ -98,12 +112,16 @@ verdictWord Pass = 0
 verdictWord Fail = 1
 verdictWord OnTheLine = 2
 
+-- words, and zeros up to the length of an answer
+abbrev pub padded : List ℕ → List ℕ
+padded words = take answerWords (words ++ replicate answerWords 0)
+
 unfoldable pub answerRecord : Outcome → List ℕ
-answerRecord accepted = 0 ∷ replicate 16 0
-answerRecord (coloured colour) = 1 ∷ (colourWords colour ++ replicate 3 0)
-answerRecord (tried colour e verdict) = 2 ∷ (colourWords colour ++ (spaceWord (e .space) ∷ e .units ∷ verdictWord verdict ∷ []))
-answerRecord (counted n) = 3 ∷ n .passed ∷ n .failed ∷ n .line ∷ replicate 13 0
-answerRecord (refused cause) = 4 ∷ cause ∷ replicate 15 0
+answerRecord accepted = padded (0 ∷ [])
+answerRecord (coloured colour) = padded (1 ∷ colourWords colour)
+answerRecord (tried t) = padded (2 ∷ (colourWords (t .colour) ++ (spaceWord (t .e .space) ∷ t .e .units ∷ verdictWord (t .verdict) ∷ [])))
+answerRecord (counted r) = padded (3 ∷ r .counts .passed ∷ r .counts .failed ∷ r .counts .line ∷ [])
+answerRecord (refused cause) = padded (4 ∷ cause ∷ [])
 
 -- the answers of some outcomes, one after the other
 unfoldable pub answerRecords : List Outcome → List ℕ

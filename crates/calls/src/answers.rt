@@ -2,17 +2,17 @@
 ghost use mathlib.Core.Path.{_≡_};
 ghost use Prim.Native.Nat.{_≤_};
 ghost use mathlib.Core.List.{[], _∷_, _++_};
-ghost use lib.ListN.{length, replicate};
+ghost use lib.ListN.{length};
 ghost use lib.Seq.{sets};
 ghost use Rattle.session.specs.Served.{amountOf, outcomeOf};
-ghost use Rattle.calls.specs.Records.{answerWords, chromaticityWords, spaceWord, verdictWord, colourWords, answerRecord};
+ghost use Rattle.calls.specs.Records.{answerWords, chromaticityWords, spaceWord, verdictWord, colourWords, padded, answerRecord};
 use cie::Chromaticity;
 use cie::Colour;
 use cie::Verdict;
+use rules::Difference;
 use session::Answer;
-use session::Difference;
 
-pub const ANSWER_WORDS: usize = 17;
+pub const ANSWER_WORDS: usize = 32;
 
 // Whether a chromaticity is there, and its x and y.
 struct Place(u32, u32, u32);
@@ -49,49 +49,60 @@ fn amount_of(e: Difference) -> Amount
 }
 
 // The words of an answer that has a colour.
-fn colour_words(kind: u32, c: Colour, amount: Amount, verdict: u32) -> [u32; 17]
-    ensures { λ r. ⌜ r ≡ kind ∷ (colourWords c ++ (amount .0 ∷ amount .1 ∷ verdict ∷ [])) ⌝ }
+fn colour_words(kind: u32, c: Colour, amount: Amount, verdict: u32) -> [u32; 32]
+    ensures { λ r. ⌜ r ≡ padded (kind ∷ (colourWords c ++ (amount .0 ∷ amount .1 ∷ verdict ∷ []))) ⌝ }
 {
     let chromaticity = c.chromaticity;
     let place = place_of(chromaticity);
-    [
-        kind,
-        c.tristimulus.x,
-        c.tristimulus.y,
-        c.tristimulus.z,
-        place.0,
-        place.1,
-        place.2,
-        c.l,
-        endian::bits(c.a),
-        endian::bits(c.b),
-        endian::bits(c.u),
-        endian::bits(c.v),
-        c.cab,
-        c.cuv,
-        amount.0,
-        amount.1,
-        verdict,
-    ]
+    let mut words = [0u32; 32];
+    words[0] = kind;
+    words[1] = c.tristimulus.x;
+    words[2] = c.tristimulus.y;
+    words[3] = c.tristimulus.z;
+    words[4] = place.0;
+    words[5] = place.1;
+    words[6] = place.2;
+    words[7] = c.l;
+    words[8] = endian::bits(c.a);
+    words[9] = endian::bits(c.b);
+    words[10] = endian::bits(c.u);
+    words[11] = endian::bits(c.v);
+    words[12] = c.cab;
+    words[13] = c.cuv;
+    words[14] = amount.0;
+    words[15] = amount.1;
+    words[16] = verdict;
+    words
 }
 
 // The words of an answer that has at most three numbers.
-fn short_words(kind: u32, a: u32, b: u32, c: u32) -> [u32; 17]
-    ensures { λ r. ⌜ r ≡ kind ∷ a ∷ b ∷ c ∷ replicate 13 0 ⌝ }
+fn short_words(kind: u32, a: u32, b: u32, c: u32) -> [u32; 32]
+    ensures { λ r. ⌜ r ≡ padded (kind ∷ a ∷ b ∷ c ∷ []) ⌝ }
 {
-    [kind, a, b, c, 0, 0, 0, 0, 0, 0, 0, 0, 0, 0, 0, 0, 0]
+    let mut words = [0u32; 32];
+    words[0] = kind;
+    words[1] = a;
+    words[2] = b;
+    words[3] = c;
+    words
 }
 
-fn words_of(answer: Answer) -> [u32; 17]
+fn words_of(answer: Answer) -> [u32; 32]
     ensures { λ r. ⌜ r ≡ answerRecord (outcomeOf answer) ⌝ }
 {
     match answer {
         Answer::Accepted => short_words(0, 0, 0, 0),
         Answer::Coloured(colour) => colour_words(1, colour, Amount(0, 0), 0),
-        Answer::Tried(colour, e, verdict) => {
+        Answer::Tried(t) => {
+            let colour = t.colour;
+            let e = t.difference;
+            let verdict = t.verdict;
             colour_words(2, colour, amount_of(e), verdict_word(verdict))
         }
-        Answer::Counted(t) => short_words(3, t.passed, t.failed, t.line),
+        Answer::Counted(r) => {
+            let tallies = r.tallies;
+            short_words(3, tallies.passed, tallies.failed, tallies.line)
+        }
         Answer::Refused(cause) => short_words(4, causes::number(cause), 0, 0),
     }
 }
@@ -102,9 +113,5 @@ pub fn write(part: &mut [u32], answer: Answer)
     ensures { λ _. ⌜ now (part .exit) ≡ sets (now (part .entry)) 0 (answerRecord (outcomeOf answer)) ⌝ }
 {
     let words = words_of(answer);
-    let mut i = 0;
-    while i < ANSWER_WORDS {
-        part[i] = words[i];
-        i = i + 1;
-    }
+    stores::put_words(part, &words);
 }

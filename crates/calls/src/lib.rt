@@ -1,11 +1,12 @@
 // Runs a whole list of calls that is held in slices: nine words a call, with its tables and spectra as parts of two pools, and
-// seventeen words for each answer. specs/Records.antt lays the records out.
+// thirty-two words for each answer. specs/Records.antt lays the records out.
 ghost use mathlib.Core.Path.{_≡_};
-ghost use Prim.Native.Nat.{_+_, _≤_};
+ghost use Prim.Native.Nat.{_+_, _<_};
 ghost use lib.ListN.{length};
+ghost use Rattle.session.specs.Call.{open-tables};
 ghost use Rattle.session.specs.Served.{Valid};
 ghost use Rattle.session.specs.Meets.{Meets};
-ghost use Rattle.calls.specs.Records.{callWords, partOf, callAt};
+ghost use Rattle.calls.specs.Records.{callWords, Lies, wordAt, partAt, tablesAt, callOf};
 ghost use Rattle.calls.specs.Run.{runAnswer, ran, answersAfter};
 use causes::Cause;
 use cie::Space;
@@ -20,67 +21,102 @@ pub enum Ran {
     Refused(Cause),
 }
 
-const CALL_WORDS: usize = 9;
+pub const CALL_WORDS: usize = 9;
 
-// A part of the pool of tables, or nothing where it runs past the end.
-fn table(tables: &[u32], start: u32, count: u32) -> &[u32]
-    ensures { λ r. ⌜ now r ≡ partOf (now (tables .entry)) start count ⌝ }
+// The kinds of calls: a record's first word. Any other number is a report too.
+pub const REPORT: u32 = 0;
+
+pub const OPEN_TABLES: u32 = 1;
+
+pub const OPEN_LIGHT: u32 = 2;
+
+pub const STANDARD: u32 = 3;
+
+pub const TOLERANCE_LAB: u32 = 4;
+
+pub const TOLERANCE_LUV: u32 = 5;
+
+pub const TRIAL: u32 = 6;
+
+// A word of a record, or 0 where the record ends before it.
+fn word(words: &[u32], i: usize) -> u32
+    ensures { λ r. ⌜ r ≡ wordAt (now (words .entry)) i ⌝ }
 {
-    let from = start as usize;
-    let n = count as usize;
-    if from <= tables.len() {
-        if n <= tables.len() - from {
-            return &tables[from..from + n];
-        }
+    if i < words.len() {
+        return words[i];
     }
-    &tables[..0]
+    0
 }
 
-// A part of the pool of spectra, or nothing where it runs past the end.
-fn spectrum(spectra: &[u16], start: u32, count: u32) -> &[u16]
-    ensures { λ r. ⌜ now r ≡ partOf (now (spectra .entry)) start count ⌝ }
-{
-    let from = start as usize;
-    let n = count as usize;
-    if from <= spectra.len() {
-        if n <= spectra.len() - from {
-            return &spectra[from..from + n];
-        }
-    }
-    &spectra[..0]
+// Where a part of a pool begins and ends.
+struct Part {
+    from: usize,
+    to: usize,
 }
 
-// Makes the call whose record begins at a place.
-fn call(s: Session, records: &[u32], at: usize, tables: &[u32], spectra: &[u16]) -> Served
-    requires { ⌜ Valid s × (at + callWords ≤ length (now records)) ⌝ }
-    ensures { λ r. ⌜ Meets s (callAt (now (records .entry)) (now (tables .entry)) (now (spectra .entry)) at) r ⌝ }
+// The part that two words of a record name in a pool of so many, or an empty one where it runs past the end.
+fn part_at(words: &[u32], i: usize, room: usize) -> Part
+    requires { ⌜ i < callWords ⌝ }
+    ensures { λ r. ⌜ Lies (wordAt (now (words .entry)) i) (wordAt (now (words .entry)) (i + 1)) room (r .from) (r .to) ⌝ }
 {
-    let kind = records[at];
-    let a = records[at + 1];
-    let b = records[at + 2];
-    if kind == 1 {
-        let i = table(tables, a, b);
-        let x = table(tables, records[at + 3], records[at + 4]);
-        let y = table(tables, records[at + 5], records[at + 6]);
-        let z = table(tables, records[at + 7], records[at + 8]);
-        return s.open_tables(i, x, y, z);
+    let start = word(words, i) as usize;
+    let end = start + word(words, i + 1) as usize;
+    if end <= room {
+        return Part {
+            from: start,
+            to: end,
+        };
     }
-    if kind == 2 {
-        return s.open_light(a);
+    Part { from: 0, to: 0 }
+}
+
+// The table that two words of a record name.
+fn table<'a>(tables: &'a [u32], words: &[u32], i: usize) -> &'a [u32]
+    requires { ⌜ i < callWords ⌝ }
+    ensures { λ r. ⌜ now r ≡ partAt (now (tables .entry)) (now (words .entry)) i ⌝ }
+{
+    let part = part_at(words, i, tables.len());
+    let from = part.from;
+    let to = part.to;
+    &tables[from..to]
+}
+
+// The readings that a record names.
+fn spectrum<'a>(spectra: &'a [u16], words: &[u32]) -> &'a [u16]
+    ensures { λ r. ⌜ now r ≡ partAt (now (spectra .entry)) (now (words .entry)) 1 ⌝ }
+{
+    let part = part_at(words, 1, spectra.len());
+    let from = part.from;
+    let to = part.to;
+    &spectra[from..to]
+}
+
+// Opens the tables that a record names.
+fn open_tables(s: Session, words: &[u32], tables: &[u32]) -> Served
+    requires { ⌜ Valid s ⌝ }
+    ensures { λ r. ⌜ Meets s (open-tables (tablesAt (now (tables .entry)) (now (words .entry)))) r ⌝ }
+{
+    let illuminant = table(tables, words, 1);
+    let x = table(tables, words, 3);
+    let y = table(tables, words, 5);
+    let z = table(tables, words, 7);
+    s.open_tables(illuminant, x, y, z)
+}
+
+// Makes the call of a record.
+pub fn call(s: Session, words: &[u32], tables: &[u32], spectra: &[u16]) -> Served
+    requires { ⌜ Valid s ⌝ }
+    ensures { λ r. ⌜ Meets s (callOf (now (words .entry)) (now (tables .entry)) (now (spectra .entry))) r ⌝ }
+{
+    match word(words, 0) {
+        OPEN_TABLES => open_tables(s, words, tables),
+        OPEN_LIGHT => s.open_light(word(words, 1)),
+        STANDARD => s.set_standard(spectrum(spectra, words)),
+        TOLERANCE_LAB => s.set_tolerance(Space::Cielab, word(words, 1)),
+        TOLERANCE_LUV => s.set_tolerance(Space::Cieluv, word(words, 1)),
+        TRIAL => s.trial(spectrum(spectra, words)),
+        _ => s.report(),
     }
-    if kind == 3 {
-        return s.set_standard(spectrum(spectra, a, b));
-    }
-    if kind == 4 {
-        return s.set_tolerance(Space::Cielab, a);
-    }
-    if kind == 5 {
-        return s.set_tolerance(Space::Cieluv, a);
-    }
-    if kind == 6 {
-        return s.trial(spectrum(spectra, a, b));
-    }
-    s.report()
 }
 
 // Runs the calls from a fresh session, and writes the answer of each into the buffer.
@@ -97,7 +133,7 @@ pub fn run(records: &[u32], tables: &[u32], spectra: &[u16], buffer: &mut [u32])
     let mut to = 0;
     let mut left = n;
     while 0 < left {
-        let served = call(session, records, from, tables, spectra);
+        let served = call(session, &records[from..], tables, spectra);
         let answer = served.answer;
         session = served.session;
         answers::write(&mut buffer[to..], answer);

@@ -1,5 +1,5 @@
 -- Laws of checks in an order: callers follow their tests one by one, and never open `firstOf` or `unless`. Assumes nothing.
-use mathlib.Core.Path.{_≡_, refl}
+use mathlib.Core.Path.{_≡_, refl, ap}
 use mathlib.Core.Bool.{Bool, true, false, cond}
 use mathlib.Core.List.{List, [], _∷_, _++_}
 use Prim.Native.Nat.{ℕ}
@@ -10,15 +10,27 @@ use Rattle.causes.specs.declared.Checked.the-variants.{Clear, Because}
 use Rattle.causes.specs.Causes.{causeNumber, accepted, refused}
 use Rattle.causes.specs.Checks.{Check, check, firstOf, unless, numbered}
 
--- a check that holds ends the call with its cause
-pub fires : {A : Type 0} (b : Bool) (c : Cause) (cs : List Check) (f : Cause → A) (a : A) → b ≡ true → unless (firstOf (check b c ∷ cs)) f a ≡ f c
-unfolding firstOf unless
-fires b c cs f a e = rw e
+-- a check that holds decides; one that does not leaves it to the rest
+pub first-fires : (b : Bool) (c : Cause) (cs : List Check) → b ≡ true → firstOf (check b c ∷ cs) ≡ Because c
+unfolding firstOf
+first-fires b c cs e = rw e
 
--- a check that does not hold is passed
-pub passes : {A : Type 0} (b : Bool) (c : Cause) (cs : List Check) (f : Cause → A) (a : A) → b ≡ false → unless (firstOf (check b c ∷ cs)) f a ≡ unless (firstOf cs) f a
-unfolding firstOf unless
-passes b c cs f a e = rw e
+pub first-passes : (b : Bool) (c : Cause) (cs : List Check) → b ≡ false → firstOf (check b c ∷ cs) ≡ firstOf cs
+unfolding firstOf
+first-passes b c cs e = rw e
+
+pub first-ends : firstOf [] ≡ Clear
+unfolding firstOf
+first-ends = refl
+
+-- the same of the call's answer: a check that holds ends the call with its cause
+module _ {A : Type 0} (b : Bool) (c : Cause) (cs : List Check) (f : Cause → A) (a : A) where
+  pub fires : b ≡ true → unless (firstOf (check b c ∷ cs)) f a ≡ f c
+  unfolding unless
+  fires e = ap (λ (t : Checked). unless t f a) (first-fires b c cs e)
+
+  pub passes : b ≡ false → unless (firstOf (check b c ∷ cs)) f a ≡ unless (firstOf cs) f a
+  passes e = ap (λ (t : Checked). unless t f a) (first-passes b c cs e)
 
 -- after the last check comes the accepted answer
 pub ends : {A : Type 0} (f : Cause → A) (a : A) → unless (firstOf []) f a ≡ a
@@ -35,7 +47,8 @@ unfolding unless
 accepts t f a e = rw e
 
 -- an answer in numbers says what its checks found: a cause of that number, or nothing
-pub numbered-refused : {A : Type 0} (found : Checked) (a : A) (n : ℕ) → numbered found a ≡ refused n → (c : Cause) × (found ≡ Because c) × (causeNumber c ≡ n)
+pub numbered-refused : {A : Type 0} (found : Checked) (a : A) (n : ℕ) → numbered found a ≡ refused n →
+    (c : Cause) × (found ≡ Because c) × (causeNumber c ≡ n)
 unfolding unless
 numbered-refused Clear a n e = let z : _≡_ {A = ℕ} 0 1 = cc in absurd (omega arith)
 numbered-refused (Because c) a n e = (c, refl, cc)
@@ -57,7 +70,8 @@ clear-tail true c cs e = cc
 clear-tail false c cs e = e
 
 -- what holds of every refusal, and of the answer where the checks find nothing, holds of the outcome
-pub either : {A : Type 0} (t : Checked) (Q : A → Type 0) (f : Cause → A) (a : A) → ((c : Cause) → Q (f c)) → (t ≡ Clear → Q a) → Q (unless t f a)
+pub either : {A : Type 0} (t : Checked) (Q : A → Type 0) (f : Cause → A) (a : A) →
+    ((c : Cause) → Q (f c)) → (t ≡ Clear → Q a) → Q (unless t f a)
 unfolding unless
 either Clear Q f a h k = k refl
 either (Because c) Q f a h k = h c

@@ -1,7 +1,6 @@
 pub mod Marked
 pub mod TableChecks
 pub mod Scales
-pub mod RowSums
 pub mod Lengths
 pub mod Steps
 pub mod Whites

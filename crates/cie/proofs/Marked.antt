@@ -91,5 +91,6 @@ pub marked : sweep ≡
     ∷ verdict OnTheLine
     ∷ verdict Fail
     ∷ []
-unfolding sweep rowSum sumsOf whiteOf colourOf chromaticityOf stepAt lightnessAt aAt bAt uOf vOf coordinate chroma labDifference squareRoot cubeRoot greatest climb nextBit
+unfolding sweep rowSum sumsOf whiteOf colourOf chromaticityOf stepAt lightnessAt aAt bAt uOf vOf coordinate chroma labDifference
+    squareRoot cubeRoot greatest climb nextBit
 marked = refl

@@ -59,7 +59,8 @@ module _ {d₁ d₂ d₃ e₁ e₂ e₃ j₁ j₂ j₃ : ℕ} {D₁ D₂ D₃ : 
   pub fail : (c T : ℕ) → T + (c + J) ≤ E → Exceeds c (squaresOf D₁ D₂ D₃) T
   unfolding Exceeds
   fail c T h =
-      (1, omega arith, elim (decLe (squaresOf D₁ D₂ D₃ 1) (square (1 * T + c))) [ yes p ↦ absurd (omega (arith, not-far (1 * T + c) p)) | no q ↦ lt-of-not-le q ])
+      let decided = decLe (squaresOf D₁ D₂ D₃ 1) (square (1 * T + c)) in
+      (1, omega arith, elim decided [ yes p ↦ absurd (omega (arith, not-far (1 * T + c) p)) | no q ↦ lt-of-not-le q ])
 
   pub line : (c T : ℕ) → suc G ≤ c + J → E < T + (c + J) → T < E + (c + J) → LessThanFrom c (2 * (c + J)) (squaresOf D₁ D₂ D₃) T
   unfolding Below

@@ -3,7 +3,7 @@ use mathlib.Core.Path.{_≡_}
 use Prim.Native.Nat.{ℕ, _+_, _*_, _≤_, _<_}
 use native.Mathlib.Omega.{arith}
 use native.Mathlib.Nat.{mul-sub}
-use Rattle.wide.specs.Words.{distance}
+use Rattle.signed.specs.Apart.{distance}
 use Rattle.wide.proofs.Scaling.{Scales}
 use Rattle.cie.specs.Colour.{lightnessAt}
 use Rattle.cie.proofs.Steps.{lightness-scales}
@@ -22,8 +22,13 @@ exact-axis e D h = record { far = h; up = omega arith; down = omega arith }
 
 -- L of two samples, in both spaces
 pub lightness-axis : (N K D : ℕ) → 0 < D → Axis 1 0 (distance (lightnessAt 1 N D) (lightnessAt 1 K D)) (λ M. distance (lightnessAt M N D) (lightnessAt M K D))
-lightness-axis N K D d = exact-axis 1 (λ M. distance (lightnessAt M N D) (lightnessAt M K D)) (λ M m. go M (lightness-scales M N D m d) (lightness-scales M K D m d))
+lightness-axis N K D d =
+    exact-axis 1 (λ M. distance (lightnessAt M N D) (lightnessAt M K D)) (λ M m. go M (lightness-scales M N D m d) (lightness-scales M K D m d))
   where
     go : (M : ℕ) → Scales M (lightnessAt 1 N D) (lightnessAt M N D) → Scales M (lightnessAt 1 K D) (lightnessAt M K D) →
         distance (lightnessAt M N D) (lightnessAt M K D) ≤ M * (distance (lightnessAt 1 N D) (lightnessAt 1 K D) + 1)
-    go M p q = omega (arith, distance-scales M M (lightnessAt 1 N D) (lightnessAt 1 K D) (lightnessAt M N D) (lightnessAt M K D) (p .0) (omega arith) (q .0) (omega arith))
+    go M p q =
+        omega (
+          arith,
+          distance-scales M M (lightnessAt 1 N D) (lightnessAt 1 K D) (lightnessAt M N D) (lightnessAt M K D) (p .0) (omega arith) (q .0) (omega arith),
+        )

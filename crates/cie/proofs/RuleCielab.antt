@@ -5,9 +5,9 @@ use native.Mathlib.Omega.{arith}
 use native.Mathlib.Nat.{mul-le-mul-left}
 use lib.Dec.{lit≤}
 use lib.IntN.{pos, _-ℤ_, _*ℤ_}
-use Rattle.wide.specs.Words.{distance, apart}
+use Rattle.signed.specs.Apart.{distance, apart}
 use Rattle.wide.proofs.Greatest.{squareRoot-floor}
-use Rattle.wide.proofs.Parts.{apart-parts, scaled-over, scaled-under}
+use Rattle.signed.proofs.Parts.{apart-parts, scaled-over, scaled-under}
 use Rattle.wide.proofs.Scaling.{Scales}
 use Rattle.cie.specs.declared.Sums.{Sums}
 use Rattle.cie.specs.declared.Space.the-variants.{Cielab}

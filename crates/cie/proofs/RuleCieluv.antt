@@ -3,15 +3,16 @@ use mathlib.Core.Path.{_≡_, refl, ap}
 use mathlib.Core.Bool.{Bool, true, false, cond}
 use Prim.Native.Nat.{ℕ, suc, _+_, _*_, _-_, _/_, _≤_, _<_}
 use native.Mathlib.Omega.{arith}
-use native.Mathlib.Nat.{mul-comm, mul-zero, zero-div, mul-le-mul-left, mul-le-mul-right, mul-lt-mul-of-pos-left, mul-lt-mul-of-pos-right, mul-pos, lt-of-mul-lt-mul-left, sub-eq-zero-of-le, le-of-suc-le-suc, add-sub-of-le}
+use native.Mathlib.Nat.{mul-comm, mul-zero, zero-div, mul-le-mul-left, mul-le-mul-right, mul-lt-mul-of-pos-left, mul-lt-mul-of-pos-right}
+use native.Mathlib.Nat.{mul-pos, lt-of-mul-lt-mul-left, sub-eq-zero-of-le, le-of-suc-le-suc, add-sub-of-le}
 use native.Mathlib.Decide.{decLe}
 use lib.Dec.{eqb, lit≤}
 use lib.IntN.{ℤ, pos, _-ℤ_, _*ℤ_}
 use lib.Signed.{quotZ}
-use Rattle.wide.specs.Words.{distance, apart}
+use Rattle.signed.specs.Apart.{distance, apart}
 use Rattle.wide.proofs.Greatest.{squareRoot-floor}
 use Rattle.wide.proofs.Scaling.{div-floor}
-use Rattle.wide.proofs.Parts.{over, under, apart-parts, share-over, share-under}
+use Rattle.signed.proofs.Parts.{over, under, apart-parts, share-over, share-under}
 use Rattle.cie.specs.declared.Sums.{Sums}
 use Rattle.cie.specs.declared.Space.the-variants.{Cieluv}
 use Rattle.cie.specs.Sums.{White, AtMostTwice}
@@ -106,7 +107,8 @@ module _ (M L l s f : ℕ) (m : 1 ≤ M) (small : uvFactor * L ≤ 2 * primeScal
       y : ℤ
       y = quotZ (pos (uvFactor * L) *ℤ (pos (prime A S) -ℤ pos (prime B W))) (pos primeScale)
 
-      go : (b : Bool) → eqb S 0 ≡ b → Near M (f * s + 3 * M) (over (cond b (pos 0) x)) (under (cond b (pos 0) x)) (over (cond b (pos 0) y)) (under (cond b (pos 0) y))
+      go : (b : Bool) → eqb S 0 ≡ b →
+          Near M (f * s + 3 * M) (over (cond b (pos 0) x)) (under (cond b (pos 0) x)) (over (cond b (pos 0) y)) (under (cond b (pos 0) y))
       go true e = record { above = omega arith; below = omega arith }
       go false e = simp (share-over, share-under) (share-near A S B W (above-zero S e) hW hA hB)
 
@@ -139,8 +141,10 @@ coordinate-axis f N K D A S A' S' B W hD hN hK hW hA hA' hB =
         × (M * apart (coordinate (lightnessAt 1 N D) A S B W) (coordinate (lightnessAt 1 K D) A' S' B W) + 2
         ≤ apart (coordinateAt (lightnessAt M N D) A S B W) (coordinateAt (lightnessAt M K D) A' S' B W) + 2 * (f * s + 3 * M))
     both M s m p q = near-apart M (f * s + 3 * M) _ _ _ _
-        (coordinate-near M (lightnessAt 1 N D) (lightnessAt M N D) s f m (omega (arith, lightness-size N D hD hN)) ((lightness-scales M N D m hD) .0) p A S B W hW hA hB)
-        (coordinate-near M (lightnessAt 1 K D) (lightnessAt M K D) s f m (omega (arith, lightness-size K D hD hK)) ((lightness-scales M K D m hD) .0) q A' S' B W hW hA' hB)
+        (coordinate-near M (lightnessAt 1 N D) (lightnessAt M N D) s f m (omega (arith, lightness-size N D hD hN))
+        ((lightness-scales M N D m hD) .0) p A S B W hW hA hB)
+        (coordinate-near M (lightnessAt 1 K D) (lightnessAt M K D) s f m (omega (arith, lightness-size K D hD hK))
+        ((lightness-scales M K D m hD) .0) q A' S' B W hW hA' hB)
 
 module _ (w s t : Sums) (W : White w) (S : AtMostTwice w s) (T : AtMostTwice w t) where
   -- 13 × 4 X ≤ 52 × (X + 15 Y + 3 Z)
@@ -156,7 +160,8 @@ module _ (w s t : Sums) (W : White w) (S : AtMostTwice w s) (T : AtMostTwice w t
       (white-y W) (S .y) (T .y) (omega (arith, white-y W)) (omega arith) (omega arith) (omega arith)
 
   -- 1² + 110² + 22² is at most the square of the margin less 1, and 4² + 4² below the square of the margin less the allowance
-  pub cieluv-right : (amount : ℕ) → Told Cieluv (squaresAt Cieluv w s t) amount (verdictOf (margin Cieluv) (difference Cieluv (colourOf w s) (colourOf w t)) amount)
+  pub cieluv-right : (amount : ℕ) →
+      Told Cieluv (squaresAt Cieluv w s t) amount (verdictOf (margin Cieluv) (difference Cieluv (colourOf w s) (colourOf w t)) amount)
   unfolding squaresAt luvDifference colourOf
   cieluv-right = rule-right (lightness-axis (s .y) (t .y) (w .y) (white-y W)) u-axis v-axis _ (margin Cieluv - allowance Cieluv) (margin Cieluv - 1)
       (squareRoot-floor (squares (distance (lAt 1 w s) (lAt 1 w t)) (apart (uOf w s) (uOf w t)) (apart (vOf w s) (vOf w t))))

@@ -1,7 +1,7 @@
 -- Laws of limits on a table's entries. Assumes nothing.
 use mathlib.Core.Path.{_≡_, refl, sym, _∙_, ap}
-use mathlib.Core.Bool.{Bool, true, false, cond, _||_, or-false}
-use mathlib.Core.List.{List, [], _∷_}
+use mathlib.Core.Bool.{Bool, true, false, cond, _||_, or-assoc, or-false}
+use mathlib.Core.List.{List, [], _∷_, _++_}
 use Prim.Native.Nat.{ℕ, zero, suc, _+_, _≤_, _<_}
 use native.Mathlib.Omega.{arith}
 use native.Mathlib.Numerals.{add-one}
@@ -31,6 +31,20 @@ below limit [] k h = omega arith
 below limit (x ∷ xs) zero h = ltb-false _ _ (or-left (ltb limit x) (anyAbove limit xs) h)
 below limit (x ∷ xs) (suc k) h = below limit xs k (or-right (ltb limit x) (anyAbove limit xs) h)
 
+-- a wider limit has no more above it
+pub above-wider : (a b : ℕ) (xs : List ℕ) → a ≤ b → anyAbove a xs ≡ false → anyAbove b xs ≡ false
+unfolding anyAbove
+above-wider a b [] h e = refl
+above-wider a b (x ∷ xs) h e =
+    rw (le-ltb b x (omega (arith, ltb-false a x (or-left (ltb a x) (anyAbove a xs) e)))) (above-wider a b xs h (or-right (ltb a x) (anyAbove a xs) e))
+
+-- of two runs of entries, either decides
+pub above-append : (limit : ℕ) (xs ys : List ℕ) → anyAbove limit (xs ++ ys) ≡ (anyAbove limit xs || anyAbove limit ys)
+unfolding anyAbove
+above-append limit [] ys = refl
+above-append limit (x ∷ xs) ys =
+    ap (λ (t : Bool). ltb limit x || t) (above-append limit xs ys) ∙ sym (or-assoc (ltb limit x) (anyAbove limit xs) (anyAbove limit ys))
+
 -- the larger of two decides for both
 larger-decides : (limit a b : ℕ) (t : Bool) → (ltb limit (largerOf a b) || t) ≡ (ltb limit a || (ltb limit b || t))
 larger-decides l a b t = go (ltb a b) refl (ltb l a) (ltb l b) refl refl
@@ -50,7 +64,10 @@ pub leads-none : (xs : List ℕ) → Leads xs 0 0
 leads-none xs = record { left = λ l. rw (le-ltb l 0 (omega arith)) }
 
 pub leads-more : {xs : List ℕ} {top i : ℕ} → i < length xs → Leads xs top i → Leads xs (largerOf top (getD xs i 0)) (i + 1)
-leads-more {xs} {top} {i} h s = record { left = λ l. larger-decides l top (getD xs i 0) _ ∙ ap (λ (t : Bool). ltb l top || t) (sym (above-more l xs i h)) ∙ s .left l }
+leads-more {xs} {top} {i} h s =
+    record {
+      left = λ l. larger-decides l top (getD xs i 0) _ ∙ ap (λ (t : Bool). ltb l top || t) (sym (above-more l xs i h)) ∙ s .left l;
+    }
 
 pub leads-all : {xs : List ℕ} {top i : ℕ} → i ≡ length xs → Leads xs top i → Largest xs top
 unfolding anyAbove

@@ -8,14 +8,15 @@ use lib.Dec.{eqb}
 use lib.IntN.{ℤ, pos, natAbs, _-ℤ_, _*ℤ_}
 use lib.Signed.{quotZ}
 use Rattle.wide.specs.Roots.{squareRoot}
-use Rattle.wide.specs.Words.{apart}
+use Rattle.signed.specs.Apart.{apart}
 use Rattle.wide.proofs.Greatest.{root-lt, squareRoot-floor}
 use Rattle.wide.proofs.Scaling.{div-floor}
-use Rattle.wide.proofs.Parts.{abs-parts, apart-parts, scaled-over, scaled-under, share-over, share-under}
+use Rattle.signed.proofs.Parts.{abs-parts, apart-parts, scaled-over, scaled-under, share-over, share-under}
 use Rattle.cie.specs.declared.Sums.{Sums}
 use Rattle.cie.specs.declared.Chromaticity.the-variants.{None, At}
 use Rattle.cie.specs.Sums.{White, AtMostTwice}
-use Rattle.cie.specs.Colour.{tristimulusScale, tristimulusOf, chromaticityScale, xyUnder, chromaticityOf, lAt, aFactor, bFactor, aAt, bAt, stepAt, uOver, vOver, uvUnder, primeScale, prime, uvFactor, coordinate, uOf, vOf, square, squares, chroma, colourOf}
+use Rattle.cie.specs.Colour.{tristimulusScale, tristimulusOf, chromaticityScale, xyUnder, chromaticityOf, lAt, aFactor, bFactor, aAt, bAt, stepAt}
+use Rattle.cie.specs.Colour.{uOver, vOver, uvUnder, primeScale, prime, uvFactor, coordinate, uOf, vOf, square, squares, chroma, colourOf}
 use Rattle.cie.specs.Sizes.{Sized}
 use Rattle.cie.proofs.Lengths.{square-le, squares-le}
 use Rattle.cie.proofs.Steps.{step-size, lightness-size}

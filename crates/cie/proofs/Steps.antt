@@ -9,7 +9,8 @@ use borrow.Author.Tests.{ltb-true, ltb-false}
 use Rattle.wide.specs.Roots.{cubeRoot}
 use Rattle.wide.proofs.Greatest.{cube-lt, cubeRoot-floor}
 use Rattle.wide.proofs.Scaling.{Scales, cubeRoot-scales, div-scales, sub-scales}
-use Rattle.cie.specs.Colour.{joint, jointUnit, bright, stepScale, straightOver, straightUnder, stepAt, lightnessScale, gain, offset, darkRise, lightnessAt}
+use Rattle.cie.specs.Colour.{joint, jointUnit, bright, stepScale, straightOver, straightUnder, stepAt}
+use Rattle.cie.specs.Colour.{lightnessScale, gain, offset, darkRise, lightnessAt}
 
 -- ── scales ──
 

@@ -7,7 +7,7 @@ use lib.Dec.{ltb, eqb}
 use lib.IntN.{ℤ, pos, natAbs, _-ℤ_, _*ℤ_}
 use lib.Signed.{quotZ}
 use Rattle.wide.specs.Roots.{squareRoot, cubeRoot}
-use Rattle.wide.specs.Words.{distance, apart}
+use Rattle.signed.specs.Apart.{distance, apart}
 use Rattle.cie.specs.declared.Sums.{Sums}
 use Rattle.cie.specs.declared.Tristimulus.{Tristimulus}
 use Rattle.cie.specs.declared.Chromaticity.{Chromaticity}

@@ -4,7 +4,7 @@ use Prim.Native.Nat.{ℕ, _+_, _*_, _-_, _≤_, _<_}
 use lib.Dec.{eqb}
 use lib.IntN.{ℤ, pos, _-ℤ_, _*ℤ_}
 use lib.Signed.{quotZ}
-use Rattle.wide.specs.Words.{distance, apart}
+use Rattle.signed.specs.Apart.{distance, apart}
 use Rattle.cie.specs.declared.Sums.{Sums}
 use Rattle.cie.specs.declared.Space.{Space}
 use Rattle.cie.specs.declared.Space.the-variants.{Cielab, Cieluv}

@@ -1,9 +1,9 @@
 // The scale of a spectrum's readings.
 ghost use mathlib.Core.Path.{_≡_};
-ghost use Rattle.cie.specs.Scales.{anyAbove, readingLimit, largerOf, Largest};
+ghost use Rattle.cie.specs.Scales.{anyAbove, largerOf, Largest};
 
 // The largest reading that is accepted: a reflectance of 2, in 1/10,000.
-const READING_LIMIT: u16 = 20000;
+pub const READING_LIMIT: u16 = 20000;
 
 // The larger of two readings.
 fn larger(a: u16, b: u16) -> u16
@@ -26,8 +26,8 @@ fn largest(readings: &[u16]) -> u16
 }
 
 // Whether a reading is above the limit.
-pub fn over_bright(readings: &[u16]) -> bool
-    ensures { λ r. ⌜ r ≡ anyAbove readingLimit (now (readings .entry)) ⌝ }
+pub fn over_bright(readings: &[u16], limit: u16) -> bool
+    ensures { λ r. ⌜ r ≡ anyAbove limit (now (readings .entry)) ⌝ }
 {
-    READING_LIMIT < largest(readings)
+    limit < largest(readings)
 }

@@ -1,13 +1,11 @@
 -- How large the coordinates of a colour are, so that its words hold them and the squares of a difference add up to one word. Assumes nothing.
-use mathlib.Core.Path.{_≡_, _∙_}
+use mathlib.Core.Path.{_≡_}
 use Prim.Native.Nat.{ℕ, _^_, _≤_, _<_}
 use native.Mathlib.Omega.{arith}
 use lib.IntN.{ℤ, natAbs}
-use mir.Facts.{toZ-ofZ}
-use mir.Syntax.{w32}
-use Rattle.wide.specs.Roots.{squareRoot}
-use Rattle.wide.specs.Words.{distance, apart}
-use Rattle.wide.proofs.Signs.{abs-fits}
+use lib.Signed.{mag}
+use Rattle.signed.specs.Apart.{distance, apart}
+use Rattle.signed.proofs.Passed.{passed, survives, small-survives}
 use Rattle.cie.specs.declared.Colour.{Colour}
 use Rattle.cie.specs.declared.Chromaticity.{Chromaticity}
 use Rattle.cie.specs.declared.Sums.{Sums}
@@ -15,11 +13,9 @@ use Rattle.cie.specs.declared.Tristimulus.{Tristimulus}
 use Rattle.cie.specs.Sums.{White, AtMostTwice}
 use Rattle.cie.specs.Sizes.{Sized}
 use Rattle.cie.specs.Colour.{tristimulusOf, chromaticityOf, lAt, aAt, bAt, uOf, vOf, chroma, squares, colourOf}
+use Rattle.colour.specs.declared.difference.Place.{Place}
+use Rattle.colour.specs.Places.{squaresBetween}
 use Rattle.cie.proofs.Sizes.{a-size, b-size, u-size, v-size, apart-size, luv-squares}
-use Rattle.colour.proofs.Planes.{passed}
-
-small-passed : (z : ℤ) → natAbs z < 2 ^ 31 → passed z ≡ z
-small-passed z h = toZ-ofZ (abs-fits w32 z h)
 
 -- the whole colour, as a program has its parts
 pub colour-is : (w s : Sums) → White w → AtMostTwice w s → (t : Tristimulus) (c : Chromaticity) (l cab cuv : ℕ) (a b u v : ℤ) →
@@ -29,10 +25,10 @@ pub colour-is : (w s : Sums) → White w → AtMostTwice w s → (t : Tristimulu
 unfolding colourOf
 colour-is w s W S t c l cab cuv a b u v et ec el eab euv f g =
     rw (
-      small-passed a (rw (eab .0) (omega (arith, a-size W S))),
-      small-passed b (rw (eab .1) (omega (arith, b-size W S))),
-      small-passed u (rw (euv .0) (omega (arith, u-size W S))),
-      small-passed v (rw (euv .1) (omega (arith, v-size W S))),
+      small-survives a (rw (eab .0) (omega (arith, a-size W S))),
+      small-survives b (rw (eab .1) (omega (arith, b-size W S))),
+      small-survives u (rw (euv .0) (omega (arith, u-size W S))),
+      small-survives v (rw (euv .1) (omega (arith, v-size W S))),
       f,
       g,
       et,
@@ -58,18 +54,30 @@ lab-within C = record { l-within = omega arith; p-within = omega arith; q-within
 pub luv-within : {c : Colour} → Sized c → Within (c .l) (c .u) (c .v)
 luv-within C = record { l-within = omega arith; p-within = omega arith; q-within = omega arith }
 
--- x, y and z are the three differences as a program has them
-module _ {l m : ℕ} {p q r s : ℤ} (A : Within l p r) (B : Within m q s) (x y z : ℕ)
-    (e : x ≡ distance l m) (f : y ≡ apart (passed p) (passed q)) (g : z ≡ apart (passed r) (passed s)) where
-  p-apart : y ≡ apart p q
-  p-apart = f ∙ rw (small-passed p (omega arith), small-passed q (omega arith))
+-- the three differences of two places whose coordinates fit 32 bits, as a program takes them
+pub squares-of : (m n : Place) (x y z : ℕ) → mag (m .p) < 2 ^ 31 → mag (n .p) < 2 ^ 31 → mag (m .q) < 2 ^ 31 → mag (n .q) < 2 ^ 31 →
+    x ≡ distance (m .l) (n .l) → y ≡ apart (passed (m .p)) (passed (n .p)) → z ≡ apart (passed (m .q)) (passed (n .q)) →
+    squares x y z ≡ squaresBetween m n
+squares-of m n x y z mp np mq nq e f g = rw (e, f, g, survives {z = m .p} mp, survives {z = n .p} np, survives {z = m .q} mq, survives {z = n .q} nq)
 
-  q-apart : z ≡ apart r s
-  q-apart = g ∙ rw (small-passed r (omega arith), small-passed s (omega arith))
+-- the places of two colours, as a program passes them
+abbrev pub placed : ℕ → ℤ → ℤ → Place
+placed l p q = record { l = l; p = passed p; q = passed q }
 
-  pub squares-fit : squares x y z < 2 ^ 64
+module _ {l m : ℕ} {p q r s : ℤ} (A : Within l p q) (B : Within m r s) where
+  pub squares-are : squaresBetween (placed l p q) (placed m r s) ≡ squares (distance l m) (apart p r) (apart q s)
+  squares-are =
+      rw (
+        small-survives p (omega arith),
+        small-survives q (omega arith),
+        small-survives r (omega arith),
+        small-survives s (omega arith),
+      )
+
+  pub squares-fit : squaresBetween (placed l p q) (placed m r s) < 2 ^ 64
   squares-fit =
-      omega (arith, luv-squares x y z (omega arith) (omega (arith, p-apart, apart-size p q)) (omega (arith, q-apart, apart-size r s)))
-
-  pub root-is : (n : ℕ) → n ≡ squareRoot (squares x y z) → n ≡ squareRoot (squares (distance l m) (apart p q) (apart r s))
-  root-is n h = rw (← e, ← p-apart, ← q-apart) h
+      rw squares-are
+      (omega (
+        arith,
+        luv-squares (distance l m) (apart p r) (apart q s) (omega arith) (omega (arith, apart-size p r)) (omega (arith, apart-size q s)),
+      ))

@@ -2,13 +2,13 @@
 use mathlib.Core.Path.{_≡_, sym, ap}
 use mathlib.Core.Bool.{Bool, true, false}
 use Prim.Native.Nat.{ℕ, _+_, _*_, _/_, _^_, _≤_, _<_}
-use native.Mathlib.Nat.{mul-assoc, mul-le-mul-left, mul-le-mul-right, le-of-lt, zero-add}
+use native.Mathlib.Nat.{mul-le-mul-left, mul-le-mul-right, le-of-lt, zero-add}
 use native.Mathlib.Omega.{arith}
 use borrow.Author.Tests.{ne-eqb}
 use lib.Dec.{eqb}
 use Rattle.cie.specs.declared.Sums.{Sums}
 use Rattle.cie.specs.declared.Chromaticity.the-variants.{None, At}
-use Rattle.cie.specs.Colour.{tristimulusScale, tristimulusOf, chromaticityScale, xyUnder, chromaticityOf}
+use Rattle.cie.specs.Colour.{tristimulusScale, tristimulusOf, chromaticityScale, xyUnder, chromaticityOf, primeScale}
 
 -- ── numbers of two digits in a base P ──
 
@@ -32,14 +32,14 @@ low-zero P h l e = let s : h * P + l ≡ l = omega (arith, ap (λ (x : ℕ). x *
 
 -- ── the ratios ──
 
--- 4 X and 9 Y are at most four times X + 15 Y + 3 Z
-pub primes-fit : (x y z d : ℕ) → x < 2 ^ 64 → y < 2 ^ 64 → z < 2 ^ 64 → d ≡ x + 15 * y + 3 * z → 0 < x + 15 * y + 3 * z →
-    (d < 2 ^ 102) × ((40000000 * x < 2 ^ 26 * d) × (90000000 * y < 2 ^ 26 * d))
-primes-fit x y z d hx hy hz e h = omega arith
+-- where d is X + 15 Y + 3 Z, 4 X and 9 Y are at most four times it
+pub primes-fit : (x y z d : ℕ) → x < 2 ^ 64 → y < 2 ^ 64 → z < 2 ^ 64 → d ≡ x + 15 * y + 3 * z →
+    (d < 2 ^ 102) × (4 * x ≤ 4 * d) × (9 * y ≤ 4 * d)
+primes-fit x y z d hx hy hz e = omega arith
 
--- one factor taken out of the scale, and the divisor by its name
-pub scaled-ratio : (k m n d S r : ℕ) → d ≡ S → r ≡ k * m * n / d → r ≡ k * (m * n) / S
-scaled-ratio k m n d S r e h = rw (← e, ← mul-assoc) h
+-- and so their ratios to it at the scale of u' and v' are small
+pub prime-small : (k n d : ℕ) → 0 < d → k * n ≤ 4 * d → primeScale * k * n < 2 ^ 26 * d
+prime-small k n d p h = omega arith
 
 pub tristimulus-is : (w s : Sums) (x y z : ℕ) →
     x ≡ tristimulusScale * s .x / (0 + w .y) → y ≡ tristimulusScale * s .y / (0 + w .y) → z ≡ tristimulusScale * s .z / (0 + w .y) →

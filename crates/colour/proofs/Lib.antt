@@ -1,6 +1,3 @@
-pub mod Dots
-pub mod Preparing
-pub mod Measuring
 pub mod Fractions
 pub mod Joint
 pub mod Planes

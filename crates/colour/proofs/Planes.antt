@@ -7,12 +7,10 @@ use native.Mathlib.Omega.{arith}
 use lib.Dec.{eqb}
 use lib.IntN.{ℤ, pos, negsuc, natAbs, _-ℤ_, _*ℤ_}
 use lib.Signed.{quotZ, mag}
-use mir.Facts.{toZ-ofZ}
-use mir.Syntax.{w32}
-use mir.Val.{toZ, ofZ}
 use Rattle.wide.specs.Roots.{squareRoot}
-use Rattle.wide.specs.Words.{apart}
-use Rattle.wide.proofs.Parts.{over, under, abs-parts, apart-parts}
+use Rattle.signed.specs.Apart.{apart}
+use Rattle.signed.proofs.Parts.{over, under, abs-parts, apart-parts}
+use Rattle.signed.proofs.Passed.{passed, survives}
 use Rattle.cie.specs.Colour.{prime, primeScale, uvFactor, coordinate, chroma}
 use Rattle.cie.proofs.Lengths.{square-le}
 use Rattle.cie.proofs.Whites.{above-zero}
@@ -42,14 +40,6 @@ module _ (S d : ℕ) (e : d ≡ S) (t : Bool) (z : t ≡ eqb d 0) where
   unfolding coordinate
   coordinate-is h L A B W l x y p f g i q = q ∙ rw (f, g, i, ← e, ← z, h)
 
--- ── signed numbers as a call passes them ──
-
-abbrev pub passed : ℤ → ℤ
-passed z = toZ w32 (ofZ w32 z)
-
-pub passed-is : (z : ℤ) → mag z < 2 ^ 31 → passed z ≡ z
-passed-is z h = toZ-ofZ {w = w32} {z = z} (record { sfits = h })
-
 -- ── chroma ──
 
 apart-zero : (z : ℤ) → apart z (pos 0) ≡ natAbs z
@@ -62,7 +52,7 @@ abs-within (negsuc n) h = h
 
 -- x is the size of p, which fits 32 bits
 size-is : (p : ℤ) (x : ℕ) → mag p < 2 ^ 31 → x ≡ apart (passed p) (pos 0) → x ≡ natAbs p
-size-is p x h e = e ∙ ap (λ (z : ℤ). apart z (pos 0)) (passed-is p h) ∙ apart-zero p
+size-is p x h e = e ∙ ap (λ (z : ℤ). apart z (pos 0)) (survives {z = p} h) ∙ apart-zero p
 
 module _ (p q : ℤ) (x y : ℕ) (h : mag p < 2 ^ 31) (k : mag q < 2 ^ 31) (e : x ≡ apart (passed p) (pos 0)) (f : y ≡ apart (passed q) (pos 0)) where
   pub chroma-fits : x * x + y * y < 2 ^ 64

@@ -1,4 +1,2 @@
-pub mod Weights
-pub mod Conditions
-pub mod Measure
-pub mod Colours
+pub mod White
+pub mod Places

@@ -2,10 +2,12 @@
 ghost use mathlib.Core.Path.{_≡_};
 ghost use Rattle.cie.specs.Sums.{White, AtMostTwice};
 ghost use Rattle.cie.specs.Colour.{aAt, bAt, uOf, vOf, lAt, chroma};
-ghost use Rattle.colour.specs.Conditions.{whitePointOf};
-use crate::conditions::WhitePoint;
+ghost use Rattle.colour.specs.White.{whitePointOf};
 use crate::ratios;
+use crate::ratios::U_FACTOR;
+use crate::ratios::V_FACTOR;
 use crate::steps;
+use crate::white::WhitePoint;
 use cie::Sums;
 
 // A pair of coordinates, in 1/10,000.
@@ -30,8 +32,8 @@ pub fn ab_of(s: Sums, w: Sums) -> Plane
     let y = steps::step(s.y, w.y);
     let z = steps::step(s.z, w.z);
     Plane {
-        p: wide::signed::multiple(A_FACTOR, x, y),
-        q: wide::signed::multiple(B_FACTOR, y, z),
+        p: signed::multiple(A_FACTOR, x, y),
+        q: signed::multiple(B_FACTOR, y, z),
     }
 }
 
@@ -43,11 +45,11 @@ pub fn uv_of(s: Sums, l: u32, white: WhitePoint) -> Plane
     if ratios::is_zero(under) {
         return Plane { p: 0, q: 0 };
     }
-    let u = ratios::u_prime(s, under);
-    let v = ratios::v_prime(s, under);
+    let u = ratios::prime(U_FACTOR, s.x, under);
+    let v = ratios::prime(V_FACTOR, s.y, under);
     Plane {
-        p: wide::signed::share(UV_FACTOR * l, u, white.u, PRIME_SCALE),
-        q: wide::signed::share(UV_FACTOR * l, v, white.v, PRIME_SCALE),
+        p: signed::share(UV_FACTOR * l, u, white.u, PRIME_SCALE),
+        q: signed::share(UV_FACTOR * l, v, white.v, PRIME_SCALE),
     }
 }
 
@@ -55,7 +57,7 @@ pub fn uv_of(s: Sums, l: u32, white: WhitePoint) -> Plane
 pub fn chroma_of(c: Plane) -> u32
     ensures { λ r. ⌜ r ≡ chroma (c .p) (c .q) ⌝ }
 {
-    let p = wide::signed::apart_of(c.p, 0) as u64;
-    let q = wide::signed::apart_of(c.q, 0) as u64;
+    let p = signed::apart_of(c.p, 0) as u64;
+    let q = signed::apart_of(c.q, 0) as u64;
     wide::roots::square_root(p * p + q * q)
 }

@@ -1,22 +1,17 @@
-// The colour of a spectrum: conditions from tables, sums under them, the colour of the sums, and the two differences.
+// From sums to a colour: its steps, lightness, coordinates, ratios and chromas, and the differences of two colours.
 ghost use mathlib.Core.Path.{_≡_};
 ghost use Rattle.cie.specs.Sums.{White, AtMostTwice};
 ghost use Rattle.cie.specs.Colour.{colourOf};
-ghost use Rattle.colour.specs.Weights.{Spectrum};
-ghost use Rattle.colour.specs.Conditions.{whitePointOf, Sound};
-ghost use Rattle.colour.specs.Colours.{colourUnder};
+ghost use Rattle.colour.specs.White.{whitePointOf};
 use cie::Colour;
 use cie::Sums;
-use conditions::Conditions;
-use conditions::WhitePoint;
+use white::WhitePoint;
 
-pub mod conditions;
 mod coordinates;
 pub mod difference;
-pub mod measure;
 mod ratios;
 mod steps;
-mod weights;
+pub mod white;
 
 // The colour of measured sums beside their white.
 pub fn colour_of(sums: Sums, white: WhitePoint) -> Colour
@@ -38,13 +33,4 @@ pub fn colour_of(sums: Sums, white: WhitePoint) -> Colour
         cab: coordinates::chroma_of(ab),
         cuv: coordinates::chroma_of(uv),
     }
-}
-
-// The colour of a spectrum under conditions.
-pub fn colour_under(conditions: Conditions, readings: &[u16]) -> Colour
-    requires { ⌜ Sound conditions × Spectrum (now readings) ⌝ }
-    ensures { λ r. ⌜ r ≡ colourUnder conditions (now (readings .entry)) ⌝ }
-{
-    let sums = weights::sums_of(readings, &conditions.x, &conditions.y, &conditions.z);
-    colour_of(sums, conditions.white)
 }

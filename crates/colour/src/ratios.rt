@@ -1,10 +1,10 @@
 // The ratios of a colour: tristimulus values, chromaticity, u' and v'.
 ghost use mathlib.Core.Path.{_≡_};
-ghost use Prim.Native.Nat.{_*_, _/_, _^_, _<_};
+ghost use Prim.Native.Nat.{_*_, _/_, _^_, _≤_, _<_};
 ghost use lib.Dec.{eqb};
 ghost use Rattle.wide.specs.Words.{value};
 ghost use Rattle.cie.specs.Sums.{White, AtMostTwice};
-ghost use Rattle.cie.specs.Colour.{tristimulusOf, chromaticityOf, xyUnder, uOver, vOver, uvUnder, prime};
+ghost use Rattle.cie.specs.Colour.{tristimulusOf, chromaticityOf, xyUnder, uvUnder, prime};
 use cie::Chromaticity;
 use cie::Sums;
 use cie::Tristimulus;
@@ -14,10 +14,12 @@ const TRISTIMULUS_SCALE: u64 = 1000000;
 
 const CHROMATICITY_SCALE: u64 = 1000000;
 
-// 4 and 9, × 10,000,000.
-const U_OVER: u64 = 40000000;
+const PRIME_SCALE: u64 = 10000000;
 
-const V_OVER: u64 = 90000000;
+// The factors of X in u' and of Y in v'.
+pub const U_FACTOR: u64 = 4;
+
+pub const V_FACTOR: u64 = 9;
 
 // k × n / d, down.
 pub fn ratio(k: u64, n: u64, d: Wide) -> u32
@@ -77,18 +79,10 @@ pub fn uv_under(s: Sums) -> Wide
     wide::sum(xy, wide::product(3, s.z))
 }
 
-// u' × 10,000,000, down.
-pub fn u_prime(s: Sums, under: Wide) -> u32
-    requires { ⌜ (value under ≡ uvUnder s) × (0 < uvUnder s) ⌝ }
-    ensures { λ r. ⌜ r ≡ prime (uOver s) (uvUnder s) ⌝ }
+// u' at (4, X) and v' at (9, Y), each × 10,000,000, down.
+pub fn prime(k: u64, n: u64, under: Wide) -> u32
+    requires { ⌜ (k ≤ 9) × (0 < value under) × (value under < 2 ^ 102) × (k * n ≤ 4 * value under) ⌝ }
+    ensures { λ r. ⌜ r ≡ prime (k * n) (value under) ⌝ }
 {
-    ratio(U_OVER, s.x, under)
-}
-
-// v' × 10,000,000, down.
-pub fn v_prime(s: Sums, under: Wide) -> u32
-    requires { ⌜ (value under ≡ uvUnder s) × (0 < uvUnder s) ⌝ }
-    ensures { λ r. ⌜ r ≡ prime (vOver s) (uvUnder s) ⌝ }
-{
-    ratio(V_OVER, s.y, under)
+    ratio(PRIME_SCALE * k, n, under)
 }

@@ -1,4 +1,3 @@
-pub mod Stores
 pub mod Parts
 pub mod Words
 pub mod Signed

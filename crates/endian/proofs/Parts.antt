@@ -96,15 +96,19 @@ module _ (s : List ℕ) (b : AllBelow 256 s) (k at : ℕ) (h : at + k ≤ length
 pub at16-is : (s : List ℕ) (at : ℕ) → at + 2 ≤ length s → getD s at 0 + 256 * getD s (at + 1) 0 ≡ at16 s at
 unfolding numberAt fromLittleEndian
 at16-is s at h =
-    let e : part s at 2 ≡ getD s at 0 ∷ getD s (at + 1) 0 ∷ [] =
-    part-one s at 1 (omega arith) ∙ ap (λ (l : List ℕ). getD s at 0 ∷ l) (part-one s (at + 1) 0 (omega arith) ∙ ap (λ (l : List ℕ). getD s (at + 1) 0 ∷ l) (part-none s (at + 1 + 1))) in
-    rw e (omega arith)
+    let second : part s (at + 1) 1 ≡ getD s (at + 1) 0 ∷ [] =
+    part-one s (at + 1) 0 (omega arith) ∙ ap (λ (l : List ℕ). getD s (at + 1) 0 ∷ l) (part-none s (at + 1 + 1)) in
+    let both : part s at 2 ≡ getD s at 0 ∷ getD s (at + 1) 0 ∷ [] = part-one s at 1 (omega arith) ∙ ap (λ (l : List ℕ). getD s at 0 ∷ l) second in
+    rw both (omega arith)
 
 pub at32-is : (s : List ℕ) (at : ℕ) → at + 4 ≤ length s → at16 s at + 65536 * at16 s (at + 2) ≡ at32 s at
 unfolding numberAt
 at32-is s at h =
     let l : length (part s at 2) ≡ 2 = length-part s at 2 (omega arith) in
-    sym (ap fromLittleEndian (sym (part-join s at 2 2)) ∙ join-bytes (part s at 2) (part s (at + 2) 2) ∙ ap (λ (k : ℕ). fromLittleEndian (part s at 2) + 256 ^ k * fromLittleEndian (part s (at + 2) 2)) l)
+    sym
+    (ap fromLittleEndian (sym (part-join s at 2 2))
+    ∙ join-bytes (part s at 2) (part s (at + 2) 2)
+    ∙ ap (λ (k : ℕ). fromLittleEndian (part s at 2) + 256 ^ k * fromLittleEndian (part s (at + 2) 2)) l)
 
 pub le16-is : (x : ℕ) → x < 65536 → (x % 256) ∷ (x / 256) ∷ [] ≡ le16 x
 unfolding littleEndian

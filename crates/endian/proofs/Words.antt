@@ -8,7 +8,7 @@ use mathlib.Core.List.{List, [], _∷_, _++_, append-assoc}
 use lib.ListN.{length, getD, set, take, drop, take-append-drop, drop-of-length-le}
 use lib.Seq.{sets, drop-cons, drop-drop, take-at, drop-at}
 use Rattle.endian.specs.Bytes.{littleEndian, le16, at16, part, words, bytesOf, AllBelow}
-use Rattle.endian.proofs.Stores.{sets-then}
+use Rattle.stores.proofs.Runs.{sets-then}
 use Rattle.endian.proofs.Parts.{length-littleEndian, littleEndian-numberAt, numberAt-behind, numberAt-front, part-join, part-none, tail-below}
 
 -- the words at a step
@@ -35,7 +35,9 @@ unfolding words
 words-add s zero m at step = let e : at ≡ at + step * 0 = omega arith in let f : 0 + m ≡ m = omega arith in rw f (ap (λ (i : ℕ). words s i step m) e)
 words-add s (suc n) m at step =
     let e : at + step + step * n ≡ at + step * suc n = omega arith in
-    words-first s at step (n + m) {n = suc n + m} (omega arith) ∙ ap (λ (l : List ℕ). at16 s at ∷ l) (words-add s n m (at + step) step ∙ ap (λ (i : ℕ). words s (at + step) step n ++ words s i step m) e)
+    words-first s at step (n + m) {n = suc n + m} (omega arith)
+    ∙ ap (λ (l : List ℕ). at16 s at ∷ l)
+    (words-add s n m (at + step) step ∙ ap (λ (i : ℕ). words s (at + step) step n ++ words s i step m) e)
 
 pub getD-words : (s : List ℕ) (n at step i : ℕ) → i < n → getD (words s at step n) i 0 ≡ at16 s (at + step * i)
 unfolding words
@@ -80,7 +82,9 @@ words-bytesOf [] q b = refl
 words-bytesOf (x ∷ xs) q b =
     let r : List ℕ = bytesOf xs ++ q in
     let next : words (le16 x ++ r) (0 + 2) 2 (length xs) ≡ xs =
-    ap (λ (i : ℕ). words (le16 x ++ r) i 2 (length xs)) (omega (arith, length-littleEndian 2 x)) ∙ words-behind (le16 x) r (length xs) 0 2 ∙ words-bytesOf xs q (tail-below xs b) in
+    ap (λ (i : ℕ). words (le16 x ++ r) i 2 (length xs)) (omega (arith, length-littleEndian 2 x))
+    ∙ words-behind (le16 x) r (length xs) 0 2
+    ∙ words-bytesOf xs q (tail-below xs b) in
     rw (append-assoc (le16 x) (bytesOf xs) q, numberAt-front 2 x r (b 0), next)
 
 pub bytesOf-words : (s : List ℕ) → AllBelow 256 s → (n at : ℕ) → at + 2 * n ≤ length s → bytesOf (words s at 2 n) ≡ part s at (2 * n)

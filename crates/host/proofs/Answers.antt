@@ -18,12 +18,12 @@ use Rattle.causes.proofs.Checks.{fires, passes, ends, refuses, clear-head, clea
 use Rattle.cie.specs.declared.Colour.{Colour}
 use Rattle.cie.specs.Lights.{lightTables}
 use Rattle.cie.specs.Sizes.{Sized}
-use Rattle.cie.proofs.RowSums.{at-most-twice}
 use Rattle.cie.proofs.Sizes.{colour-sized}
-use Rattle.colour.proofs.Preparing.{sound-light}
+use Rattle.conditions.proofs.Dots.{at-most-twice}
+use Rattle.conditions.proofs.Sound.{sound-light}
 use Rattle.endian.specs.Bytes.{littleEndian, le32, twos}
 use Rattle.endian.proofs.Parts.{length-littleEndian}
-use Rattle.endian.proofs.Stores.{sets-then, sets-front}
+use Rattle.stores.proofs.Runs.{sets-then, sets-front}
 use Rattle.host.specs.Host.{hostReadings, answerLength, answerBytes, colourChecks, hostChecks, lightColour, colouredOf, answered, bufferAfter}
 
 -- stores
@@ -49,11 +49,13 @@ answer-put d c el ea eb eu ev p₁ p₂ p₃ = p₃ ∙ rw (p₂, p₁, el, ea, 
 
 -- what was found says what its checks found
 module _ (light : ℕ) (bytes : List ℕ) where
-  found-because : (n : ℕ) → refused n ≡ colouredOf light bytes → (c : Cause) × (firstOf (colourChecks light bytes) ≡ Because c) × (causeNumber c ≡ n)
+  found-because : (n : ℕ) → refused n ≡ colouredOf light bytes →
+      (c : Cause) × (firstOf (colourChecks light bytes) ≡ Because c) × (causeNumber c ≡ n)
   unfolding colouredOf
   found-because n e = numbered-refused (firstOf (colourChecks light bytes)) (lightColour light (hostReadings bytes)) n (sym e)
 
-  found-colour : (c : Colour) → accepted c ≡ colouredOf light bytes → (firstOf (colourChecks light bytes) ≡ Clear) × (c ≡ lightColour light (hostReadings bytes))
+  found-colour : (c : Colour) → accepted c ≡ colouredOf light bytes →
+      (firstOf (colourChecks light bytes) ≡ Clear) × (c ≡ lightColour light (hostReadings bytes))
   unfolding colouredOf
   found-colour c e = numbered-accepted (firstOf (colourChecks light bytes)) (lightColour light (hostReadings bytes)) c (sym e)
 
@@ -81,7 +83,8 @@ module _ (light : ℕ) (bytes : List ℕ) where
       unfolding answered bufferAfter
       no-room h = rw rest (sym (fires _ _ _ _ _ (lt-ltb _ _ h)), sym (fires _ _ _ _ _ (lt-ltb _ _ h)))
 
-      pub written : answerLength ≤ length b → {g : List ℕ} → g ≡ sets b 0 (answerBytes c) → (_≡_ {A = ℕ} 0 (answered light bytes (length b))) × (g ≡ bufferAfter light bytes b)
+      pub written : answerLength ≤ length b → {g : List ℕ} → g ≡ sets b 0 (answerBytes c) →
+          (_≡_ {A = ℕ} 0 (answered light bytes (length b))) × (g ≡ bufferAfter light bytes b)
       unfolding answered bufferAfter
       written h {g} p =
           let whole : g ≡ answerBytes (lightColour light (hostReadings bytes)) ++ drop answerLength b =

@@ -1,6 +1,6 @@
 -- The colour of a spectrum that is held in bytes: its checks run in their order, and a built-in light passes those of its own tables.
 -- Assumes nothing.
-use mathlib.Core.Path.{_≡_, refl, sym, ap, _∙_, subst}
+use mathlib.Core.Path.{_≡_, refl, sym, ap, _∙_}
 use mathlib.Core.Bool.{Bool, true, false, not, cond, _||_}
 use mathlib.Core.List.{List}
 use Prim.Native.Nat.{ℕ}
@@ -16,37 +16,32 @@ use Rattle.causes.proofs.Checks.{fires, passes, ends, refuses, clear-head, clea
 use Rattle.cie.specs.declared.Sums.{Sums}
 use Rattle.cie.specs.declared.Colour.{Colour}
 use Rattle.cie.specs.Scales.{rows, readingLimit, anyAbove}
-use Rattle.cie.specs.Sums.{whiteOf, AtMostTwice}
+use Rattle.cie.specs.Sums.{whiteOf}
 use Rattle.cie.specs.Lights.{lightA, lightD65, lightTables}
 use Rattle.cie.specs.Colour.{colourOf}
-use Rattle.colour.specs.declared.conditions.Conditions.{Conditions}
-use Rattle.colour.specs.declared.conditions.Prepared.{Prepared}
-use Rattle.colour.specs.declared.measure.Measured.{Measured}
-use Rattle.colour.specs.declared.measure.Measured.the-variants as measured
-use Rattle.colour.specs.Conditions.{lightChecks, conditionsOf, preparedLight, Sound, Prepares}
-use Rattle.colour.specs.Colours.{colourUnder}
-use Rattle.colour.specs.Measure.{measureAnswer, measuredBy}
-use Rattle.colour.proofs.Dots.{sums-same}
-use Rattle.colour.proofs.Preparing.{prepared-because, prepared-clear}
-use Rattle.colour.proofs.Measuring.{measured-refused, measured-whole, measured-lit, spectrum-of}
+use Rattle.conditions.specs.declared.Conditions.{Conditions}
+use Rattle.conditions.specs.declared.Prepared.{Prepared}
+use Rattle.conditions.specs.declared.measure.Measured.{Measured}
+use Rattle.conditions.specs.declared.measure.Measured.the-variants as measured
+use Rattle.conditions.specs.Checks.{lightChecks}
+use Rattle.conditions.specs.Conditions.{conditionsOf, preparedLight, Prepares}
+use Rattle.conditions.specs.Measure.{measureAnswer, measuredBy, colourUnder}
+use Rattle.conditions.proofs.Dots.{sums-same}
+use Rattle.conditions.proofs.Answers.{prepared-because, prepared-clear}
+use Rattle.conditions.proofs.Measuring.{measured-refused, measured-whole}
 use Rattle.host.specs.Host.{spectrumLength, hostReadings, lightColour, colouredOf}
 
--- what measuring 81 readings says: they are over-bright, or their sums are at most twice the white's
-module _ (k : Conditions) (r : List ℕ) {m : Measured} (q : measureAnswer m ≡ measuredBy (k .x) (k .y) (k .z) r) where
-  pub over-bright : {c : Cause} → length r ≡ rows → m ≡ measured.Refused c → anyAbove readingLimit r ≡ true
-  unfolding firstOf
-  over-bright l e =
-      let w = measured-refused (k .x) (k .y) (k .z) r q e in
-      go (anyAbove readingLimit r) (w .0) (rw (eq-eqb (length r) rows l) at (w .1))
-    where
-      go : (b : Bool) (d : Cause) → cond b (Because OverBright) Clear ≡ Because d → b ≡ true
-      go true d h = refl
-      go false d h = cc
-
-  pub sums-lit : {s : Sums} → Sound k → m ≡ measured.Whole s → AtMostTwice (k .white .sums) s
-  sums-lit h e =
-      let w = measured-whole (k .x) (k .y) (k .z) r q e in
-      subst (AtMostTwice (k .white .sums)) (sym (w .1)) (measured-lit {c = k} h (spectrum-of r (w .0)))
+-- 81 readings that are refused are over-bright
+pub over-bright : (k : Conditions) (r : List ℕ) {m : Measured} {c : Cause} → measureAnswer m ≡ measuredBy readingLimit (k .x) (k .y) (k .z) r →
+    length r ≡ rows → m ≡ measured.Refused c → anyAbove readingLimit r ≡ true
+unfolding firstOf
+over-bright k r q l e =
+    let w = measured-refused readingLimit (k .x) (k .y) (k .z) r q e in
+    go (anyAbove readingLimit r) (w .0) (rw (eq-eqb (length r) rows l) at (w .1))
+  where
+    go : (b : Bool) (d : Cause) → cond b (Because OverBright) Clear ≡ Because d → b ≡ true
+    go true d h = refl
+    go false d h = cc
 
 abbrev unknown : ℕ → Bool
 unknown light = not (eqb light lightA || eqb light lightD65)
@@ -77,10 +72,11 @@ module _ (light : ℕ) (bytes : List ℕ) (l : unknown light ≡ false) where
     refused-bright b = sym (passes _ _ _ _ _ l ∙ passes _ _ _ _ _ (ap not (eq-eqb _ _ h)) ∙ fires _ _ _ _ _ (ap (anyAbove readingLimit) (sym q) ∙ b))
 
     pub whole : {k : Conditions} {m : Measured} {s : Sums} {c : Colour} → k ≡ conditionsOf (lightTables light)
-        → measureAnswer m ≡ measuredBy (k .x) (k .y) (k .z) r → m ≡ measured.Whole s → c ≡ colourOf (k .white .sums) s → accepted c ≡ colouredOf light bytes
+        → measureAnswer m ≡ measuredBy readingLimit (k .x) (k .y) (k .z) r → m ≡ measured.Whole s → c ≡ colourOf (k .white .sums) s
+        → accepted c ≡ colouredOf light bytes
     unfolding colouredOf lightColour
     whole {k} {c = c} e a m b =
-        let w = measured-whole (k .x) (k .y) (k .z) r a m in
+        let w = measured-whole readingLimit (k .x) (k .y) (k .z) r a m in
         let fair = ap (anyAbove readingLimit) (sym q) ∙ clear-head _ _ _ (clear-tail _ _ _ (w .0)) in
         let colour : c ≡ lightColour light (hostReadings bytes) =
         b ∙ ap (colourOf (k .white .sums)) (w .1) ∙ ap (λ (x : Conditions). colourUnder x r) e

@@ -2,7 +2,9 @@
 use causes::Cause;
 use causes::Checked;
 use cie::Colour;
-use colour::measure::Measured;
+use cie::spectrum::READING_LIMIT;
+use conditions::measure::Measured;
+use conditions::measure::measure;
 ghost use mathlib.Core.Path.{_≡_};
 ghost use mathlib.Core.List.{_++_};
 ghost use Prim.Native.Nat.{_+_, _≤_};
@@ -27,7 +29,7 @@ enum Coloured {
 fn colour_in_light(light: u32, spectrum: &[u8]) -> Coloured
     ensures { λ r. ⌜ colouredAnswer r ≡ colouredOf light (now (spectrum .entry)) ⌝ }
 {
-    let opened = colour::conditions::prepare_light(light);
+    let opened = conditions::prepare_light(light);
     let checked = opened.checked;
     if let Checked::Because(cause) = checked {
         return Coloured::Refused(cause);
@@ -38,7 +40,13 @@ fn colour_in_light(light: u32, spectrum: &[u8]) -> Coloured
     let mut readings = [0u16; 81];
     endian::read_words(spectrum, 0, &mut readings);
     let conditions = opened.conditions;
-    let measured = colour::measure::measure(&readings, &conditions.x, &conditions.y, &conditions.z);
+    let measured = measure(
+        &readings,
+        READING_LIMIT,
+        &conditions.x,
+        &conditions.y,
+        &conditions.z,
+    );
     let Measured::Whole(sums) = measured else {
         return Coloured::Refused(Cause::OverBright);
     };

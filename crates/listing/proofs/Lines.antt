@@ -17,13 +17,13 @@ use Rattle.cie.specs.Sums.{whiteOf}
 use Rattle.cie.specs.Lights.{lightD65, lightTables}
 use Rattle.cie.specs.Colour.{colourOf}
 use Rattle.cie.proofs.Scales.{or-left, or-right}
-use Rattle.colour.specs.declared.conditions.Conditions.{Conditions}
-use Rattle.colour.specs.declared.conditions.Prepared.{Prepared}
-use Rattle.colour.specs.Weights.{Spectrum}
-use Rattle.colour.specs.Conditions.{conditionsOf, conditionsIn, preparedLight, Prepares}
-use Rattle.colour.specs.Colours.{colourUnder}
-use Rattle.colour.proofs.Dots.{sums-same}
-use Rattle.colour.proofs.Preparing.{light-d65}
+use Rattle.conditions.specs.declared.Conditions.{Conditions}
+use Rattle.conditions.specs.declared.Prepared.{Prepared}
+use Rattle.conditions.specs.Weights.{Spectrum}
+use Rattle.conditions.specs.Conditions.{conditionsOf, conditionsIn, preparedLight, Prepares}
+use Rattle.conditions.specs.Measure.{colourUnder}
+use Rattle.conditions.proofs.Dots.{sums-same}
+use Rattle.conditions.proofs.Lights.{light-d65}
 use Rattle.book.specs.Book.{readingsOf, isBook, spectrumOf}
 use Rattle.book.proofs.Rules.{rules}
 use Rattle.text.specs.Text.{decimal, signed, Put}
@@ -85,7 +85,8 @@ fair-take (suc k) (x ∷ xs) h =
 pub spectrum-fair : (s : List ℕ) (i : ℕ) {r : List ℕ} → isBook rows s ≡ true → length r ≡ rows → r ≡ spectrumOf rows (readingsOf rows s) i → Spectrum r
 unfolding spectrumOf
 spectrum-fair s i b l e =
-    record { length-is = l; scale = rw e (fair-take rows (drop (rows * i) (readingsOf rows s)) (fair-drop (rows * i) (readingsOf rows s) (rules rows s b .fair))) }
+    let all = fair-drop (rows * i) (readingsOf rows s) (rules rows s b .fair) in
+    record { few = omega arith; scale = rw e (fair-take rows (drop (rows * i) (readingsOf rows s)) all) }
 
 -- the whole
 module _ (s : List ℕ) where

@@ -2,14 +2,14 @@
 mod line;
 
 use causes::Cause;
-use colour::conditions::Conditions;
+use conditions::Conditions;
 ghost use mathlib.Core.Path.{_≡_};
 ghost use mathlib.Core.Bool.{true};
 ghost use Prim.Native.Nat.{_+_, _*_, _≤_, _<_};
 ghost use lib.ListN.{length};
 ghost use Rattle.cie.specs.Scales.{rows};
 ghost use Rattle.cie.specs.Lights.{lightD65, lightTables};
-ghost use Rattle.colour.specs.Conditions.{conditionsOf};
+ghost use Rattle.conditions.specs.Conditions.{conditionsOf};
 ghost use Rattle.book.specs.Book.{mostShades, countOf, isBook};
 ghost use Rattle.io.specs.Counts.{Counts};
 ghost use Rattle.text.specs.Text.{Put};
@@ -36,7 +36,7 @@ fn put_shade(conditions: Conditions, book: &[u8], i: usize, out: &mut [u8], at: 
     let mut readings = [0u16; 81];
     book::reader::spectrum_at(book, i, &mut readings);
     let number = book::reader::number_at(book, i);
-    let colour = colour::colour_under(conditions, &readings);
+    let colour = conditions::measure::colour_under(conditions, &readings);
     line::put_line(out, at, number as u32, colour)
 }
 
@@ -45,7 +45,7 @@ fn put_lines(book: &[u8], out: &mut [u8], start: usize) -> usize
     requires { ⌜ (isBook rows (now book) ≡ true) × (start + lineRoom * mostShades ≤ length (now out)) ⌝ }
     ensures { λ r. ⌜ Put (now (out .entry)) start (shadeLines (now (book .entry))) (now (out .exit)) r × (r ≤ start + lineRoom * mostShades) ⌝ }
 {
-    let opened = colour::conditions::prepare_light(LIGHT);
+    let opened = conditions::prepare_light(LIGHT);
     let conditions = opened.conditions;
     let n = book::reader::count(book);
     let mut at = start;

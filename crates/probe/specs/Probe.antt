@@ -36,8 +36,8 @@ afterTrials s readings (suc n) = afterTrials (after s (trial readings)) readings
 abbrev pub passedIn : Outcome → ℕ
 passedIn accepted = 0
 passedIn (coloured colour) = 0
-passedIn (tried colour e verdict) = 0
-passedIn (counted counts) = counts .passed
+passedIn (tried t) = 0
+passedIn (counted r) = r .counts .passed
 passedIn (refused cause) = 0
 
 -- the passes among a number of trials of one spectrum, as the report after them counts

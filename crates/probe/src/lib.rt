@@ -2,12 +2,13 @@
 ghost use mathlib.Core.Path.{_≡_};
 ghost use lib.ListN.{length};
 ghost use Rattle.cie.specs.Scales.{rows};
-ghost use Rattle.book.specs.Calls.{written, bufferAfterWrite, found, placesAfterRead};
+ghost use Rattle.book.specs.Reading.{found, placesAfterRead};
+ghost use Rattle.book_writer.specs.Writing.{written, bufferAfterWrite};
 ghost use Rattle.calls.specs.Run.{ran, answersAfter};
 ghost use Rattle.session.specs.Served.{outcomeOf, Valid};
 ghost use Rattle.probe.specs.Probe.{countCode, readCode, passedIn, afterTrials, sessionFor, passCount};
 use book::Found;
-use book::Written;
+use book_writer::Written;
 use calls::Ran;
 use cie::Space;
 use session::Answer;
@@ -22,7 +23,7 @@ pub extern "C" fn probe_write(numbers: &[u16], spectra: &[u16], buffer: &mut [u8
     ensures { λ r. ⌜ r ≡ countCode (written rows (now (numbers .entry)) (now (spectra .entry)) (length (now (buffer .entry)))) ⌝ }
     ensures { λ _. ⌜ now (buffer .exit) ≡ bufferAfterWrite rows (now (numbers .entry)) (now (spectra .entry)) (now (buffer .entry)) ⌝ }
 {
-    match book::write(numbers, spectra, buffer) {
+    match book_writer::write(numbers, spectra, buffer) {
         Written::Total(total) => total as u64,
         Written::Refused(cause) => REFUSED + causes::number(cause) as u64,
     }
@@ -89,8 +90,8 @@ fn passed_in(answer: Answer) -> u32
     match answer {
         Answer::Accepted => 0,
         Answer::Coloured(_) => 0,
-        Answer::Tried(_, _, _) => 0,
-        Answer::Counted(tallies) => tallies.passed,
+        Answer::Tried(_) => 0,
+        Answer::Counted(r) => r.tallies.passed,
         Answer::Refused(_) => 0,
     }
 }

@@ -6,8 +6,9 @@ use cie::Chromaticity;
 use cie::Colour;
 use cie::Verdict;
 use libc::STDOUT_FILENO;
+use rules::Difference;
 use session::Answer;
-use session::Difference;
+use session::TrialAnswer;
 
 // A space and a number.
 fn put_field(out: &mut [u8], at: usize, n: u32) -> usize
@@ -93,10 +94,13 @@ fn units_of(e: Difference) -> u32 {
     }
 }
 
-fn put_tried(out: &mut [u8], colour: Colour, e: Difference, verdict: Verdict) -> usize
+fn put_tried(out: &mut [u8], t: TrialAnswer) -> usize
     requires { ⌜ 151 ≤ length (now out) ⌝ }
     ensures { λ r. ⌜ r ≤ 151 ⌝ }
 {
+    let verdict = t.verdict;
+    let e = t.difference;
+    let colour = t.colour;
     let first = put_verdict(out, verdict);
     let second = put_field(out, first, units_of(e));
     put_colour(out, second, colour)
@@ -113,8 +117,9 @@ fn put_answer(out: &mut [u8], answer: Answer) -> usize
             let after = text::put(out, 0, b"colour");
             put_colour(out, after, colour)
         }
-        Answer::Tried(colour, e, verdict) => put_tried(out, colour, e, verdict),
-        Answer::Counted(t) => {
+        Answer::Tried(t) => put_tried(out, t),
+        Answer::Counted(r) => {
+            let t = r.tallies;
             let after = text::put(out, 0, b"tallies");
             put_three(out, after, t.passed, t.failed, t.line)
         }

@@ -14,7 +14,7 @@ pub struct Token {
     letters: bool,
     digits: bool,
     // the number that its digits spell, or the largest
-    value: u64,
+    pub value: u64,
     // whether it has no byte
     empty: bool,
 }
@@ -52,20 +52,6 @@ fn with_digit(value: u64, digit: u8) -> u64 {
     LARGEST
 }
 
-fn is_letter(byte: u8) -> bool {
-    if byte < b'a' {
-        return false;
-    }
-    byte <= b'z'
-}
-
-fn is_digit(byte: u8) -> bool {
-    if byte < b'0' {
-        return false;
-    }
-    byte <= b'9'
-}
-
 impl Token {
     pub fn new() -> Token {
         Token {
@@ -78,12 +64,10 @@ impl Token {
     }
 
     pub fn with_byte(self, byte: u8) -> Token {
-        let letter = is_letter(byte);
-        let digit = is_digit(byte);
         Token {
             code: with_letter(self.code, byte),
-            letters: self.letters && letter,
-            digits: self.digits && digit,
+            letters: self.letters && b'a' <= byte && byte <= b'z',
+            digits: self.digits && b'0' <= byte && byte <= b'9',
             value: with_digit(self.value, byte),
             empty: false,
         }
@@ -95,11 +79,6 @@ impl Token {
             return false;
         }
         self.digits
-    }
-
-    // The number that it spells, or the largest of 64 bits.
-    pub fn value(self) -> u64 {
-        self.value
     }
 
     // Whether it is this word, of at most 11 letters.

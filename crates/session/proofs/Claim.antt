@@ -8,7 +8,8 @@ use Rattle.causes.specs.Checks.{firstOf}
 use Rattle.causes.proofs.Checks.{clear-tail, either}
 use Rattle.cie.specs.Sums.{Tables, sumsOf, whiteOf}
 use Rattle.cie.proofs.Verdicts.{verdicts-right}
-use Rattle.colour.specs.Measure.{spectrumChecks}
+use Rattle.conditions.specs.Checks.{spectrumChecks}
+use Rattle.session.specs.CallChecks.{frameLimit}
 use Rattle.session.specs.Call.{Call, open-tables, open-light, set-standard, set-tolerance, trial, report}
 use Rattle.session.specs.Outcome.{Amount}
 use Rattle.session.specs.Ledger.{Held, none, held, Ledger, Entry, standardAt, trialAt, entered}
@@ -23,13 +24,15 @@ record Carried (before : List Event) (l : Ledger) : Type 0 where
   counts : l .counts ≡ verdictsIn before
 
 -- past its checks, a trial is told what the verdict's rule is owed
-at-trial : (l : Ledger) (t : Held Tables) (s : Held (List ℕ)) (o : Held Amount) (readings : List ℕ) → Proper t → Readable s → firstOf (spectrumChecks readings) ≡ Clear →
+at-trial : (l : Ledger) (t : Held Tables) (s : Held (List ℕ)) (o : Held Amount) (readings : List ℕ) →
+    Proper t → Readable s → firstOf (spectrumChecks frameLimit readings) ≡ Clear →
     TrialTold (ledgerOf t s o (l .counts)) readings (trialAt l t s o readings .outcome)
 at-trial l none s o readings p r e = tt
 at-trial l (held t) none o readings p r e = tt
 at-trial l (held t) (held s) none readings p r e = tt
 at-trial l (held t) (held s) (held a) readings p r e =
-    verdicts-right .right (a .space) (whiteOf t) (sumsOf t s) (sumsOf t readings) (a .units) (white-kept t p) (twice-kept t s r) (twice-kept t readings e)
+    verdicts-right .right (a .space) (whiteOf t) (sumsOf t s) (sumsOf t readings) (a .units)
+    (white-kept t p) (twice-kept t s r) (twice-kept t readings e)
 
 trial-told : (l : Ledger) (readings : List ℕ) → Kept l → TrialTold l readings (entered l (trial readings) .outcome)
 trial-told l readings k =

@@ -21,13 +21,15 @@ abbrev CountsAfter : List Event → Call → Entry → Type 0
 CountsAfter before c q = q .ledger .counts ≡ verdictsIn (event c (q .outcome) ∷ before)
 
 -- a call that is given no verdict leaves the counts as they were
-uncounted : (before : List Event) (c : Call) (o : Outcome) → ((p : Verdict → Bool) → given p c o ≡ false) → verdictsIn before ≡ verdictsIn (event c o ∷ before)
+uncounted : (before : List Event) (c : Call) (o : Outcome) → ((p : Verdict → Bool) → given p c o ≡ false) →
+    verdictsIn before ≡ verdictsIn (event c o ∷ before)
 unfolding timesGiven
 uncounted before c o h = rw (h isPass, h isFail, h isLine)
 
 -- a trial that is given one counts it
 one-more : (before : List Event) (readings : List ℕ) (colour : Colour) (e : Amount) (verdict : Verdict) →
-    countedIn (verdictsIn before) verdict ≡ verdictsIn (event (trial readings) (tried colour e verdict) ∷ before)
+    countedIn (verdictsIn before) verdict
+    ≡ verdictsIn (event (trial readings) (tried (record { colour = colour; e = e; verdict = verdict })) ∷ before)
 unfolding timesGiven
 one-more before readings colour e Pass = refl
 one-more before readings colour e Fail = refl

@@ -7,10 +7,10 @@ use Rattle.causes.specs.declared.Checked.the-variants.{Clear}
 use Rattle.causes.specs.Checks.{firstOf}
 use Rattle.causes.proofs.Checks.{clear-head, clear-tail, either}
 use Rattle.cie.specs.Sums.{Tables, sumsOf, whiteOf, White, AtMostTwice}
-use Rattle.colour.specs.Conditions.{tableChecks}
-use Rattle.cie.proofs.RowSums.{at-most-twice}
-use Rattle.colour.specs.Measure.{spectrumChecks}
-use Rattle.colour.proofs.Preparing.{light-clear}
+use Rattle.conditions.specs.Checks.{tableChecks, spectrumChecks}
+use Rattle.conditions.proofs.Dots.{at-most-twice}
+use Rattle.conditions.proofs.Sound.{light-clear}
+use Rattle.session.specs.CallChecks.{frameLimit}
 use Rattle.session.specs.Call.{Call, open-tables, open-light, set-standard, set-tolerance, trial, report}
 use Rattle.session.specs.Outcome.{Amount}
 use Rattle.session.specs.Ledger.{Held, none, held, Ledger, emptyLedger, Entry, standardAt, trialAt, entered}
@@ -21,7 +21,7 @@ Proper (held t) = firstOf (tableChecks t) ≡ Clear
 
 abbrev pub Readable : Held (List ℕ) → Type 0
 Readable none = Unit
-Readable (held readings) = firstOf (spectrumChecks readings) ≡ Clear
+Readable (held readings) = firstOf (spectrumChecks frameLimit readings) ≡ Clear
 
 pub record Kept (l : Ledger) : Type 0 where
   pub tables : Proper (l .conditions)
@@ -30,7 +30,8 @@ pub record Kept (l : Ledger) : Type 0 where
 pub kept-empty : Kept emptyLedger
 kept-empty = record { tables = tt; standard = tt }
 
-with-standard : (l : Ledger) (t : Held Tables) (readings : List ℕ) → Kept l → firstOf (spectrumChecks readings) ≡ Clear → Kept (standardAt l t readings .ledger)
+with-standard : (l : Ledger) (t : Held Tables) (readings : List ℕ) → Kept l →
+    firstOf (spectrumChecks frameLimit readings) ≡ Clear → Kept (standardAt l t readings .ledger)
 with-standard l none readings k e = k
 with-standard l (held t) readings k e = record { tables = k .tables; standard = e }
 

@@ -10,27 +10,24 @@ use Rattle.causes.specs.declared.Checked.the-variants.{Clear, Because}
 use Rattle.causes.specs.Checks.{firstOf, unless}
 use Rattle.cie.specs.declared.Colour.{Colour}
 use Rattle.cie.specs.declared.Space.{Space}
-use Rattle.cie.specs.declared.Space.the-variants.{Cielab, Cieluv}
 use Rattle.cie.specs.declared.Verdict.{Verdict}
 use Rattle.cie.specs.declared.Verdict.the-variants.{Pass, Fail, OnTheLine}
 use Rattle.cie.specs.Sums.{Tables, whiteOf}
-use Rattle.cie.specs.Colour.{colourOf, colourAt, labDifference, luvDifference}
-use Rattle.cie.specs.Verdict.{margin, verdictOf}
-use Rattle.colour.specs.Conditions.{conditionsOf}
-use Rattle.colour.specs.Colours.{colourUnder}
-use Rattle.colour.proofs.Dots.{sums-same}
-use Rattle.session.specs.declared.Tolerance.{Tolerance}
-use Rattle.session.specs.declared.Difference.{Difference}
-use Rattle.session.specs.declared.Difference.the-variants as difference
-use Rattle.session.specs.declared.Judged.the-variants.{By}
-use Rattle.session.specs.declared.Tallies.{Tallies}
+use Rattle.cie.specs.Colour.{colourOf, colourAt}
+use Rattle.cie.specs.Verdict.{margin, verdictOf, difference}
+use Rattle.conditions.specs.Conditions.{conditionsOf}
+use Rattle.conditions.specs.Measure.{colourUnder}
+use Rattle.conditions.proofs.Dots.{sums-same}
+use Rattle.rules.specs.declared.Judged.{Judged}
+use Rattle.rules.specs.declared.Tallies.{Tallies}
+use Rattle.rules.specs.Rules.{toleranceOf, judgedBy, talliedBy}
+use Rattle.rules.proofs.InSpace.{tolerant, judged-in}
 use Rattle.session.specs.Call.{Call, open-tables, open-light, set-standard, set-tolerance, trial, report}
-use Rattle.session.specs.Outcome.{Amount, VerdictCounts, Outcome, tried}
+use Rattle.session.specs.Outcome.{Amount, VerdictCounts, TrialOutcome, Outcome}
 use Rattle.session.specs.CallChecks.{trialChecks}
-use Rattle.session.specs.Ledger.{Held, none, held, Ledger, emptyLedger, Entry, countSum, countedIn, countedAt, judgedAt, entered, outcomesAt}
-use Rattle.session.specs.Rules.{toleranceOf, hasTolerance, judgedOf, talliedBy}
-use Rattle.session.specs.Served.{amountOf, Reply, served, freshSession, refusedBy, standardBy, withTallies, triedBy}
-use Rattle.session.specs.Meets.{talliesOf, sessionOf}
+use Rattle.session.specs.Ledger.{Held, none, held, Ledger, emptyLedger, Entry, countSum, countedIn, judgedAt, entered, outcomesAt}
+use Rattle.session.specs.Served.{Reply, served, freshSession, refusedBy, standardBy, trialBy, triedBy}
+use Rattle.session.specs.Stands.{talliesOf, sessionOf}
 use Rattle.session.specs.Claim.{outcomesFrom, Event, event, Each, done, more}
 
 colour-same : (t : Tables) (readings : List ℕ) → colourUnder (conditionsOf t) readings ≡ colourAt t readings
@@ -41,7 +38,8 @@ abbrev pub replyOf : Entry → Reply
 replyOf e = record { session = sessionOf (e .ledger); outcome = e .outcome }
 
 -- two answers behind the same checks agree where the refusals and the accepted answers do
-both : (t : Checked) (f : Cause → Reply) (a : Reply) (g : Cause → Entry) (b : Entry) → ((c : Cause) → f c ≡ replyOf (g c)) → a ≡ replyOf b → unless t f a ≡ replyOf (unless t g b)
+both : (t : Checked) (f : Cause → Reply) (a : Reply) (g : Cause → Entry) (b : Entry) →
+    ((c : Cause) → f c ≡ replyOf (g c)) → a ≡ replyOf b → unless t f a ≡ replyOf (unless t g b)
 unfolding unless
 both Clear f a g b h k = k
 both (Because c) f a g b h k = h c
@@ -62,17 +60,17 @@ tallied n Pass = refl
 tallied n Fail = refl
 tallied n OnTheLine = refl
 
-counting : (l : Ledger) (colour : Colour) (e : Difference) (verdict : Verdict) → triedBy (sessionOf l) colour (By e verdict) ≡ replyOf (countedAt l colour (amountOf e) verdict)
-counting l colour e verdict = ap (λ (t : Tallies). record { session = withTallies (sessionOf l) t; outcome = tried colour (amountOf e) verdict }) (tallied (l .counts) verdict)
-
--- the program judges an amount in the space of the call that set it
-tolerant : (space : Space) (units : ℕ) → hasTolerance (toleranceOf space units) ≡ true
-tolerant Cielab units = refl
-tolerant Cieluv units = refl
-
-judging : (l : Ledger) (space : Space) (units : ℕ) (p q : Colour) → triedBy (sessionOf l) q (judgedOf (toleranceOf space units) p q) ≡ replyOf (judgedAt l (record { space = space; units = units }) p q)
-judging l Cielab units p q = counting l q (difference.Lab (labDifference p q)) (verdictOf (margin Cielab) (labDifference p q .0) units)
-judging l Cieluv units p q = counting l q (difference.Luv (luvDifference p q)) (verdictOf (margin Cieluv) (luvDifference p q .0) units)
+-- the program's judgement of an amount is the ledger's, in the amount's space
+judging : (l : Ledger) (space : Space) (units : ℕ) (p q : Colour) →
+    triedBy (sessionOf l) q (judgedBy (toleranceOf space units) p q) ≡ replyOf (judgedAt l (record { space = space; units = units }) p q)
+judging l space units p q =
+    let j = judged-in space units p q in
+    let verdict : Verdict = verdictOf (margin space) (difference space p q) units in
+    let told : Amount → TrialOutcome = λ e. record { colour = q; e = e; verdict = verdict } in
+    let answered : Tallies → Space → ℕ → Reply =
+    λ t k n. trialBy (sessionOf l) t (told (record { space = k; units = n })) in
+    ap (triedBy (sessionOf l) q) (j .judged)
+    ∙ (λ i. answered (tallied (l .counts) verdict i) (j .in-space i) (j .counted i))
 
 trying : (readings : List ℕ) (t : Held Tables) (s : Held (List ℕ)) (o : Held Amount) (n : VerdictCounts) → Same (ledgerOf t s o n) (trial readings)
 trying readings none s o n = unfold firstOf unless in refl
@@ -80,11 +78,13 @@ trying readings (held t) none o n = unfold firstOf unless in refl
 trying readings (held t) (held s) none n = unfold firstOf unless in refl
 trying readings (held t) (held s) (held a) n =
     let l : Ledger = ledgerOf (held t) (held s) (held a) n in
-    let o : Tolerance = toleranceOf (a .space) (a .units) in
+    let judge : Colour → Judged = judgedBy (toleranceOf (a .space) (a .units)) (colourAt t s) in
     let k : Colour = colourUnder (conditionsOf t) readings in
-    ap (λ (b : Bool). unless (firstOf (trialChecks true true b (countSum n) readings)) (refusedBy (sessionOf l)) (triedBy (sessionOf l) k (judgedOf o (colourAt t s) k))) (tolerant (a .space) (a .units))
+    ap (λ (b : Bool). unless (firstOf (trialChecks true true b (countSum n) readings)) (refusedBy (sessionOf l)) (triedBy (sessionOf l) k (judge k)))
+    (tolerant (a .space) (a .units))
     ∙ both _ _ _ _ _ (λ c. refl)
-    (ap (λ (q : Colour). triedBy (sessionOf l) q (judgedOf o (colourAt t s) q)) (colour-same t readings) ∙ judging l (a .space) (a .units) (colourAt t s) (colourAt t readings))
+    (ap (λ (q : Colour). triedBy (sessionOf l) q (judge q)) (colour-same t readings)
+    ∙ judging l (a .space) (a .units) (colourAt t s) (colourAt t readings))
 
 -- the session after a call is that of the ledger after it, with the ledger's outcome
 pub simulated : (l : Ledger) (c : Call) → served (sessionOf l) c ≡ replyOf (entered l c)
@@ -110,7 +110,8 @@ module _
     each-from : (before : List Event) (l : Ledger) (cs : List Call) → K before l → Each P before l cs (outcomesFrom (sessionOf l) cs)
     each-from before l [] k = done
     each-from before l (c ∷ cs) k =
-        rw (simulated l c) (more (right before l c k) (each-from (event c (entered l c .outcome) ∷ before) (entered l c .ledger) cs (kept before l c k)))
+        let history = event c (entered l c .outcome) ∷ before in
+        rw (simulated l c) (more (right before l c k) (each-from history (entered l c .ledger) cs (kept before l c k)))
 
     pub each-call : K [] emptyLedger → (cs : List Call) → Each P [] emptyLedger cs (outcomesFrom freshSession cs)
     each-call k cs = each-from [] emptyLedger cs k

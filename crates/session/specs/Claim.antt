@@ -45,8 +45,8 @@ VerdictTold (held t) (held standard) (held a) readings verdict =
 abbrev pub TrialTold : Ledger → List ℕ → Outcome → Type 0
 TrialTold l readings accepted = ⊥
 TrialTold l readings (coloured colour) = ⊥
-TrialTold l readings (tried colour e verdict) = VerdictTold (l .conditions) (l .standard) (l .tolerance) readings verdict
-TrialTold l readings (counted counts) = ⊥
+TrialTold l readings (tried t) = VerdictTold (l .conditions) (l .standard) (l .tolerance) readings (t .verdict)
+TrialTold l readings (counted r) = ⊥
 TrialTold l readings (refused cause) = Unit
 
 -- "every report's tallies are exact": the verdicts that the trials before it in the list were given, counted over the list itself
@@ -68,8 +68,8 @@ isLine OnTheLine = true
 abbrev pub shows : (Verdict → Bool) → Outcome → Bool
 shows p accepted = false
 shows p (coloured colour) = false
-shows p (tried colour e verdict) = p verdict
-shows p (counted counts) = false
+shows p (tried t) = p (t .verdict)
+shows p (counted r) = false
 shows p (refused cause) = false
 
 -- whether a call is a trial that was given such a verdict
@@ -91,16 +91,16 @@ verdictsIn es = record { passed = timesGiven isPass es; failed = timesGiven isFa
 abbrev pub ReportTold : List Event → Outcome → Type 0
 ReportTold before accepted = ⊥
 ReportTold before (coloured colour) = ⊥
-ReportTold before (tried colour e verdict) = ⊥
-ReportTold before (counted counts) = counts ≡ verdictsIn before
+ReportTold before (tried t) = ⊥
+ReportTold before (counted r) = r .counts ≡ verdictsIn before
 ReportTold before (refused cause) = ⊥
 
 -- no call but a trial shows a verdict
 abbrev pub NoVerdict : Outcome → Type 0
 NoVerdict accepted = Unit
 NoVerdict (coloured colour) = Unit
-NoVerdict (tried colour e verdict) = ⊥
-NoVerdict (counted counts) = Unit
+NoVerdict (tried t) = ⊥
+NoVerdict (counted r) = Unit
 NoVerdict (refused cause) = Unit
 
 abbrev pub CallTold : List Event → Ledger → Call → Outcome → Type 0

@@ -1,7 +1,7 @@
 -- Document 01, "Lists of calls": the ledger, "which is fed each call with its arguments other than the session, and nothing that the program
--- holds or answers". It stands on the paper alone. What it shares with the program are the lists of checks (CallChecks, and those of tables,
--- lights and spectra in `colour`), the tables and formulas of `cie`, and the causes' numbers: no type and no rule that the program decides by.
--- `sessionOf` in Meets.antt is the one map from the ledger to the program. Assumes nothing.
+-- holds or answers". It stands on the paper alone. What it shares with the program are the lists of checks (CallChecks.antt names them), the tables
+-- and formulas of `cie`, and the causes' numbers: no type and no rule that the program decides by. `sessionOf` in Stands.antt is the one map from
+-- the ledger to the program. Assumes nothing.
 use mathlib.Core.Bool.{Bool, true, false}
 use mathlib.Core.List.{List, [], _∷_}
 use Prim.Native.Nat.{ℕ, _+_}
@@ -16,10 +16,11 @@ use Rattle.cie.specs.Sums.{Tables}
 use Rattle.cie.specs.Lights.{lightTables}
 use Rattle.cie.specs.Colour.{colourAt}
 use Rattle.cie.specs.Verdict.{margin, verdictOf, difference}
-use Rattle.colour.specs.Conditions.{tableChecks, lightChecks}
+use Rattle.conditions.specs.Checks.{tableChecks, lightChecks}
+use Rattle.rules.specs.Standing.{toleranceChecks}
 use Rattle.session.specs.Call.{Call, open-tables, open-light, set-standard, set-tolerance, trial, report}
 use Rattle.session.specs.Outcome.{Amount, VerdictCounts, Outcome, accepted, coloured, tried, counted, refused}
-use Rattle.session.specs.CallChecks.{standardChecks, toleranceChecks, trialChecks}
+use Rattle.session.specs.CallChecks.{standardChecks, trialChecks}
 
 pub data Held (A : Type 0) : Type 0 where
   none : Held A
@@ -81,7 +82,7 @@ abbrev pub countedAt : Ledger → Colour → Amount → Verdict → Entry
 countedAt l colour e verdict =
     record {
       ledger = record { conditions = l .conditions; standard = l .standard; tolerance = l .tolerance; counts = countedIn (l .counts) verdict };
-      outcome = tried colour e verdict;
+      outcome = tried (record { colour = colour; e = e; verdict = verdict });
     }
 
 -- "E and the verdict by the formulas above": of the standard's colour p and the trial's q, in the space of the tolerance
@@ -112,7 +113,7 @@ entered l (open-light light) = unless (firstOf (lightChecks light)) (refusedAt l
 entered l (set-standard readings) = unless (firstOf (standardChecks (isHeld (l .conditions)) readings)) (refusedAt l) (standardAt l (l .conditions) readings)
 entered l (set-tolerance space amount) = unless (firstOf (toleranceChecks amount)) (refusedAt l) (toleranceAt l (record { space = space; units = amount }))
 entered l (trial readings) = trialEntry l readings
-entered l report = record { ledger = l; outcome = counted (l .counts) }
+entered l report = record { ledger = l; outcome = counted (record { counts = l .counts }) }
 
 -- the outcomes of a list of calls, by the ledger
 abbrev pub outcomesAt : Ledger → List Call → List Outcome

@@ -2,7 +2,7 @@ pub mod Call
 pub mod Outcome
 pub mod CallChecks
 pub mod Ledger
-pub mod Rules
 pub mod Served
+pub mod Stands
 pub mod Meets
 pub mod Claim

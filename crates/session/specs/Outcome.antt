@@ -15,10 +15,20 @@ pub record VerdictCounts : Type 0 where
   pub failed : ℕ
   pub line : ℕ
 
+-- "a trial's colour, E and verdict"
+pub record TrialOutcome : Type 0 where
+  pub colour : Colour
+  pub e : Amount
+  pub verdict : Verdict
+
+-- "a report's tallies"
+pub record ReportOutcome : Type 0 where
+  pub counts : VerdictCounts
+
 -- "when refused, the cause; otherwise a standard's colour, a trial's colour, E and verdict, or a report's tallies"
 pub data Outcome : Type 0 where
   accepted : Outcome
   coloured : Colour → Outcome
-  tried : Colour → Amount → Verdict → Outcome
-  counted : VerdictCounts → Outcome
+  tried : TrialOutcome → Outcome
+  counted : ReportOutcome → Outcome
   refused : ℕ → Outcome

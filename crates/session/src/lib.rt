@@ -7,48 +7,22 @@ ghost use Rattle.session.specs.Meets.{Meets};
 use causes::Cause;
 use causes::Checked;
 use cie::Colour;
-use cie::LabUnits;
-use cie::LuvUnits;
 use cie::Space;
 use cie::Verdict;
-use colour::conditions;
-use colour::conditions::Conditions;
-use colour::measure;
-use colour::measure::Measured;
+use cie::spectrum::READING_LIMIT;
+use conditions::Conditions;
+use conditions::measure;
+use conditions::measure::Measured;
+use rules::Difference;
+use rules::Judged;
+use rules::Standard;
+use rules::Tallies;
+use rules::Tolerance;
+use rules::judging;
+use rules::standing;
 
-mod rules;
-
-// None, or an amount in one of the two spaces.
-pub enum Tolerance {
-    Unset,
-    Lab(LabUnits),
-    Luv(LuvUnits),
-}
-
-// The colour of the standard in force.
-pub enum Standard {
-    Missing,
-    Of(Colour),
-}
-
-// E in the tolerance's space.
-pub enum Difference {
-    Lab(LabUnits),
-    Luv(LuvUnits),
-}
-
-// E and its verdict; neither where no tolerance is in force.
-pub enum Judged {
-    Without,
-    By(Difference, Verdict),
-}
-
-// How many trials were given each verdict.
-pub struct Tallies {
-    pub passed: u32,
-    pub failed: u32,
-    pub line: u32,
-}
+// The limit of the spectra that a session is given.
+const FRAME_LIMIT: u16 = READING_LIMIT;
 
 pub struct Session {
     conditions: Conditions,
@@ -58,12 +32,24 @@ pub struct Session {
     tallies: Tallies,
 }
 
+// What a trial answers: its colour, E in the tolerance's space, and the verdict.
+pub struct TrialAnswer {
+    pub colour: Colour,
+    pub difference: Difference,
+    pub verdict: Verdict,
+}
+
+// What a report answers.
+pub struct ReportAnswer {
+    pub tallies: Tallies,
+}
+
 // What a call answers.
 pub enum Answer {
     Accepted,
     Coloured(Colour),
-    Tried(Colour, Difference, Verdict),
-    Counted(Tallies),
+    Tried(TrialAnswer),
+    Counted(ReportAnswer),
     Refused(Cause),
 }
 
@@ -194,12 +180,13 @@ impl Session {
         }
         let measured = measure::measure(
             readings,
+            FRAME_LIMIT,
             &self.conditions.x,
             &self.conditions.y,
             &self.conditions.z,
         );
         let Measured::Whole(sums) = measured else {
-            return self.refused(rules::cause_of(measured));
+            return self.refused(measure::cause_of(measured));
         };
         let white = self.conditions.white;
         self.with_standard(colour::colour_of(sums, white))
@@ -210,7 +197,7 @@ impl Session {
         requires { ⌜ Valid self ⌝ }
         ensures { λ r. ⌜ Meets self (set-tolerance space amount) r ⌝ }
     {
-        if rules::TOLERANCE_LIMIT < amount {
+        if rules::off_scale(amount) {
             return self.refused(Cause::ToleranceOffScale);
         }
         self.with_tolerance(rules::tolerance_of(space, amount))
@@ -221,39 +208,39 @@ impl Session {
         requires { ⌜ Valid self ⌝ }
         ensures { λ r. ⌜ Meets self (trial (now (readings .entry))) r ⌝ }
     {
-        if !self.opened {
-            return self.refused(Cause::NoConditions);
-        }
-        let held = self.standard;
-        let Standard::Of(standard) = held else {
-            return self.refused(Cause::NoStandard);
-        };
+        let standard = self.standard;
         let tolerance = self.tolerance;
-        if !rules::has_tolerance(tolerance) {
-            return self.refused(Cause::NoTolerance);
-        }
         let tallies = self.tallies;
-        if rules::tally_sum(tallies) == rules::SESSION_LIMIT {
-            return self.refused(Cause::SessionFull);
+        let stands = standing::stands(self.opened, standard, tolerance, tallies);
+        if let Checked::Because(cause) = stands {
+            return self.refused(cause);
         }
         let measured = measure::measure(
             readings,
+            FRAME_LIMIT,
             &self.conditions.x,
             &self.conditions.y,
             &self.conditions.z,
         );
         let Measured::Whole(sums) = measured else {
-            return self.refused(rules::cause_of(measured));
+            return self.refused(measure::cause_of(measured));
         };
         let white = self.conditions.white;
         let colour = colour::colour_of(sums, white);
-        let Judged::By(e, verdict) = rules::judge(tolerance, standard, colour) else {
+        // read here, and not kept across the colour
+        let held = self.standard;
+        let Judged::By(e, verdict) = judging::judge(held, tolerance, colour) else {
             return self.refused(Cause::NoTolerance);
         };
-        self.tallies = rules::tallied(tallies, verdict);
+        self.tallies = standing::tallied(tallies, verdict);
+        let trial = TrialAnswer {
+            colour: colour,
+            difference: e,
+            verdict: verdict,
+        };
         Served {
             session: self,
-            answer: Answer::Tried(colour, e, verdict),
+            answer: Answer::Tried(trial),
         }
     }
 
@@ -263,9 +250,10 @@ impl Session {
         ensures { λ r. ⌜ Meets self report r ⌝ }
     {
         let tallies = self.tallies;
+        let report = ReportAnswer { tallies: tallies };
         Served {
             session: self,
-            answer: Answer::Counted(tallies),
+            answer: Answer::Counted(report),
         }
     }
 }

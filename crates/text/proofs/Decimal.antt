@@ -13,8 +13,8 @@ use lib.IntN.{ℤ, pos, negsuc}
 use lib.ListN.{length, length-append}
 use lib.Signed.{ltZ}
 use Rattle.io.specs.Digits.{glyph, digits, Fewest}
-use Rattle.wide.specs.Words.{apart}
-use Rattle.wide.proofs.Parts.{over, under, apart-parts}
+use Rattle.signed.specs.Apart.{apart}
+use Rattle.signed.proofs.Parts.{over, under, apart-parts}
 use Rattle.text.specs.Text.{digit, decimalBy, decimal, signed}
 
 -- the text of a number below 10, and of any other

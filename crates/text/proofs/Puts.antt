@@ -5,7 +5,7 @@ use Prim.Native.Nat.{ℕ, _+_, _-_, _≤_}
 use native.Mathlib.Omega.{arith}
 use lib.ListN.{length, take, drop, set, length-append, length-drop}
 use lib.Seq.{sets, take-length, length-take-le}
-use Rattle.endian.proofs.Stores.{sets-append, sets-part, sets-front}
+use Rattle.stores.proofs.Runs.{sets-append, sets-part, sets-front}
 use Rattle.text.specs.Text.{Put}
 
 -- putting two texts one after the other is putting both as one
@@ -41,7 +41,8 @@ module _ {d : List ℕ} {start : ℕ} {whole : List ℕ} where
   pub left-all : Left d start whole d start whole
   left-all = record { ends = refl; holds = refl }
 
-  pub left-more : {e g : List ℕ} {at r : ℕ} {rest xs more : List ℕ} → rest ≡ xs ++ more → Left d start whole e at rest → Put e at xs g r → Left d start whole g r more
+  pub left-more : {e g : List ℕ} {at r : ℕ} {rest xs more : List ℕ} →
+      rest ≡ xs ++ more → Left d start whole e at rest → Put e at xs g r → Left d start whole g r more
   left-more {rest = rest} {more = more} q l p =
       let both = same (sym q) (then p (record { ends = refl; holds = refl })) in
       record { ends = both .ends ∙ l .ends; holds = both .holds ∙ l .holds }

@@ -26,7 +26,7 @@ pub fn put_signed(out: &mut [u8], at: usize, x: i32) -> usize
     requires { ⌜ at + 11 ≤ length (now out) ⌝ }
     ensures { λ r. ⌜ Put (now (out .entry)) at (signed x) (now (out .exit)) r × (r ≤ at + 11) ⌝ }
 {
-    let size = wide::signed::apart_of(x, 0);
+    let size = signed::apart_of(x, 0);
     if x < 0 {
         out[at] = b'-';
         return put_number(out, at + 1, size);

@@ -71,7 +71,8 @@ squareRoot-is n p h k =
     (le-of-suc-le-suc (root-lt p (suc (squareRoot n)) (lt-of-le-of-lt h (f .1))))
 
 pub cubeRoot-floor : (K N D : ℕ) → 0 < D →
-    (cubeRoot K N D * cubeRoot K N D * cubeRoot K N D * D ≤ K * K * K * N) × (K * K * K * N < suc (cubeRoot K N D) * suc (cubeRoot K N D) * suc (cubeRoot K N D) * D)
+    (cubeRoot K N D * cubeRoot K N D * cubeRoot K N D * D ≤ K * K * K * N)
+    × (K * K * K * N < suc (cubeRoot K N D) * suc (cubeRoot K N D) * suc (cubeRoot K N D) * D)
 unfolding cubeRoot
 cubeRoot-floor K N D d =
     let l = greatest-last (λ p. leb (p * p * p * D) (K * K * K * N)) (K * suc (N / D)) (le→leb (0 * 0 * 0 * D) (K * K * K * N) (omega arith)) up in

@@ -1,6 +1,4 @@
 pub mod Greatest
 pub mod Scaling
-pub mod Parts
 pub mod Halves
 pub mod Search
-pub mod Signs

@@ -5,7 +5,6 @@ ghost use lib.Dec.{leb};
 ghost use Rattle.wide.specs.Words.{value};
 
 pub mod roots;
-pub mod signed;
 
 // hi × 2^64 + lo.
 pub struct Wide {

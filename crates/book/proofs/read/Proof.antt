@@ -24,8 +24,9 @@ returns-3 : tie.Need-returns-3
 returns-3 c =
     let n = c .before in
     let t₂ = n .before .before in
+    let book = holds (t₂ .before .is-book .ensures) (t₂ .if2 .left) in
     read-refused rows _ _ _ NoSuchShade
-    (no-such-shade rows _ _ _ (t₂ .before .before .if1 .left) (holds (t₂ .before .is-book .ensures) (t₂ .if2 .left)) (n .before .find .ensures) (n .count .ensures .0) (c .if3 .taken))
+    (no-such-shade rows _ _ _ (t₂ .before .before .if1 .left) book (n .before .find .ensures) (n .count .ensures .0) (c .if3 .taken))
 
 spectrum-at-requires : tie.Need-spectrum-at-requires
 spectrum-at-requires c κs =
@@ -39,8 +40,9 @@ returns-4 c =
     let t₃ = filled .before .before in
     let place = t₃ .before .before in
     let t₂ = place .before in
+    let book = holds (t₂ .before .is-book .ensures) (t₂ .if2 .left) in
     read-accepted rows _ _ _
-    (reads rows _ _ _ (t₂ .before .before .if1 .left) (holds (t₂ .before .is-book .ensures) (t₂ .if2 .left)) (place .find .ensures) (t₃ .before .count .ensures .0) (t₃ .if3 .left))
+    (reads rows _ _ _ (t₂ .before .before .if1 .left) book (place .find .ensures) (t₃ .before .count .ensures .0) (t₃ .if3 .left))
     (place .find .ensures) (filled .spectrum-at .ensures)
 
 pub read-spec : {M : Type 1} → statement M

@@ -1,101 +1,61 @@
--- `calls::call` meets its contract: it asks for the kinds in the order of the definition. Assumes nothing.
+-- `calls::call` meets its contract: each arm makes the call that the definition has for its kind. Assumes nothing.
 use borrow.Author.Needs.{needs}
-use Rattle.calls.proofs.ByKind.{opens-tables, opens-light, sets-standard, sets-lab, sets-luv, tries, reports}
+use Rattle.calls.proofs.ByKind.{Kind, by-tables, by-light, by-standard, by-lab, by-luv, by-trial, by-report}
 use Rattle.calls.proofs.call.Statement.{statement}
 use Rattle.calls.proofs.call.Tie as tie
 
+-- the function's entry, from where the first word is read
+abbrev entry : tie.After-word → tie.Start
+entry c = c .before .before .before .before
+
+read : (c : tie.After-word) → Kind (entry c .args .words .now) (entry c .args .tables .now) (entry c .args .spectra .now) (c .word .result)
+read c = record { first = c .word .ensures }
+
 returns : tie.Need-returns
-returns c =
-    let a = c .before .before .before .before .before .before .before .before .before .before .before .before .before .before .before .before .before .before .args in
-    opens-tables (a .s) _ (a .records .now) (a .tables .now) (a .spectra .now) (a .at) (c .before .before .before .before .before .before .before .before .before .before .before .if1 .taken)
-    (c .before .before .before .before .before .before .before .before .before .before .table .ensures)
-    (c .before .before .before .before .before .before .before .table2 .ensures)
-    (c .before .before .before .before .table3 .ensures)
-    (c .before .table4 .ensures)
-    (c .open-tables .ensures)
+returns c = by-tables (read (c .before .before)) (c .before .match .keys1) (c .open-tables .ensures)
 
 returns-2 : tie.Need-returns-2
-returns-2 c =
-    let a = c .before .before .before .before .before .before .before .before .before .args in
-    opens-light (a .s) _ (a .records .now) (a .tables .now) (a .spectra .now) (a .at) (c .before .before .if1 .left) (c .before .if2 .taken) (c .open-light .ensures)
+returns-2 c = by-light (read (c .before .before .before)) (c .before .before .match .keys2) (c .before .word2 .ensures) (c .open-light .ensures)
 
 returns-3 : tie.Need-returns-3
-returns-3 c =
-    let a = c .before .before .before .before .before .before .before .before .before .before .before .args in
-    sets-standard (a .s) _ (a .records .now) (a .tables .now) (a .spectra .now) (a .at) (c .before .before .before .before .if1 .left) (c .before .before .before .if2 .left) (c .before .before .if3 .taken) (c .before .spectrum .ensures)
-    (c .set-standard .ensures)
+returns-3 c = by-standard (read (c .before .before .before)) (c .before .before .match .keys3) (c .before .spectrum .ensures) (c .set-standard .ensures)
 
 returns-4 : tie.Need-returns-4
-returns-4 c =
-    let a = c .before .before .before .before .before .before .before .before .before .before .before .args in
-    sets-lab (a .s) _ (a .records .now) (a .tables .now) (a .spectra .now) (a .at) (c .before .before .before .before .if1 .left) (c .before .before .before .if2 .left) (c .before .before .if3 .left) (c .before .if4 .taken)
-    (c .set-tolerance .ensures)
+returns-4 c = by-lab (read (c .before .before .before)) (c .before .before .match .keys4) (c .before .word3 .ensures) (c .set-tolerance .ensures)
 
 returns-5 : tie.Need-returns-5
-returns-5 c =
-    let a = c .before .before .before .before .before .before .before .before .before .before .before .before .args in
-    sets-luv (a .s) _ (a .records .now) (a .tables .now) (a .spectra .now) (a .at) (c .before .before .before .before .before .if1 .left) (c .before .before .before .before .if2 .left) (c .before .before .before .if3 .left) (c .before .before .if4 .left)
-    (c .before .if5 .taken) (c .set-tolerance2 .ensures)
+returns-5 c = by-luv (read (c .before .before .before)) (c .before .before .match .keys5) (c .before .word4 .ensures) (c .set-tolerance2 .ensures)
 
 returns-6 : tie.Need-returns-6
-returns-6 c =
-    let a = c .before .before .before .before .before .before .before .before .before .before .before .before .before .before .args in
-    tries (a .s) _ (a .records .now) (a .tables .now) (a .spectra .now) (a .at) (c .before .before .before .before .before .before .before .if1 .left) (c .before .before .before .before .before .before .if2 .left) (c .before .before .before .before .before .if3 .left)
-    (c .before .before .before .before .if4 .left) (c .before .before .before .if5 .left) (c .before .before .if6 .taken) (c .before .spectrum2 .ensures) (c .trial .ensures)
+returns-6 c = by-trial (read (c .before .before .before)) (c .before .before .match .keys6) (c .before .spectrum2 .ensures) (c .trial .ensures)
 
 returns-7 : tie.Need-returns-7
 returns-7 c =
-    let a = c .before .before .before .before .before .before .before .before .before .before .before .before .before .args in
-    reports (a .s) _ (a .records .now) (a .tables .now) (a .spectra .now) (a .at) (c .before .before .before .before .before .before .if1 .left) (c .before .before .before .before .before .if2 .left) (c .before .before .before .before .if3 .left)
-    (c .before .before .before .if4 .left) (c .before .before .if5 .left) (c .before .if6 .left) (c .report .ensures)
+    let n = c .before .match .rest in
+    let n₄ = n .0 .0 in
+    by-report (read (c .before .before)) (n₄ .0 .0 .0 .1) (n₄ .0 .0 .1) (n₄ .0 .1) (n₄ .1) (n .0 .1) (n .1) (c .report .ensures)
 
 pub call-spec : {M : Type 1} → statement M
 call-spec =
     tie.close
     (tie.spec
-    (λ c. search needs)
-    (λ c. search needs)
-    (λ c. search needs)
-    (λ c. search needs)
-    (λ c. search needs)
-    (λ c. search needs)
-    (λ c. search needs)
-    (λ c. search needs)
     (λ c κs. search needs)
-    (λ c. search needs)
-    (λ c. search needs)
-    (λ c. search needs)
-    (λ c. search needs)
-    (λ c. search needs)
-    (λ c. search needs)
     (λ c κs. search needs)
-    (λ c. search needs)
-    (λ c. search needs)
-    (λ c. search needs)
-    (λ c. search needs)
-    (λ c. search needs)
-    (λ c. search needs)
     (λ c κs. search needs)
-    (λ c. search needs)
-    (λ c. search needs)
-    (λ c. search needs)
-    (λ c. search needs)
-    (λ c. search needs)
-    (λ c. search needs)
+    (λ c κs. search needs)
+    (λ c κs. search needs)
+    (λ c κs. search needs)
+    (λ c κs. search needs)
+    (λ c κs. search needs)
+    (λ c κs. search needs)
+    (λ c κs. search needs)
+    (λ c κs. search needs)
     (λ c κs. search needs)
     (λ c κs. search needs)
     returns
-    (λ c κs. search needs)
     returns-2
-    (λ c κs. search needs)
-    (λ c κs. search needs)
     returns-3
-    (λ c κs. search needs)
     returns-4
-    (λ c κs. search needs)
     returns-5
-    (λ c κs. search needs)
-    (λ c κs. search needs)
     returns-6
-    (λ c κs. search needs)
     returns-7)

@@ -21,47 +21,66 @@ abbrev μ-loop : tie.MeasureT-loop
 
 returns : tie.Need-returns Inv-loop μ-loop
 returns c =
-    let a = c .before .before .before .before .before .args in
-    (sym (ran-short (a .records .now) _ (c .if1 .taken)), sym (after-short (a .records .now) (a .tables .now) (a .spectra .now) (a .buffer .now) (c .if1 .taken)))
+    let a = c .before .before .before .before .before .args in (
+      sym (ran-short (a .records .now) _ (c .if1 .taken)),
+      sym (after-short (a .records .now) (a .tables .now) (a .spectra .now) (a .buffer .now) (c .if1 .taken)),
+    )
 
 loop-holds : tie.Need-loop-holds Inv-loop μ-loop
 loop-holds c = (refl, omega arith, omega arith, refl, omega arith, along-start _ _ _ _ (c .fresh .ensures .0) (c .fresh .ensures .1))
 
+-- the function's entry, from a turn of the loop
+abbrev entry : tie.In-loop Inv-loop μ-loop → tie.Start Inv-loop μ-loop
+entry c = c .before .before .before .before .before .before .before .before
+
+part-call-start : tie.Need-part-call-start Inv-loop μ-loop
+part-call-start c = omega arith
+
 call-requires : tie.Need-call-requires Inv-loop μ-loop
-call-requires c κs = (c .before .loop .inv .5 .valid, omega arith)
+call-requires c κs = c .before .before .loop .inv .5 .valid
+
+mul-write : tie.Need-mul-write Inv-loop μ-loop
+mul-write c =
+    let t = c .before .before .before in
+    let i = t .before .loop .inv in
+    omega (arith, i .2, i .4, entry t .good .1 .1 .1 .0)
 
 add-from : tie.Need-add-from Inv-loop μ-loop
 add-from c =
-    let t = c .before .before .before .before .before .before in
+    let called = c .before .before .before .before .before in
+    let t = called .before .before in
     let i = t .before .loop .inv in
-    omega (arith, i .0, i .1, t .loop-test .taken, t .before .before .before .before .before .before .before .before .good .0)
+    omega (arith, i .0, i .1, t .loop-test .taken, entry t .good .0)
 
 add-to : tie.Need-add-to Inv-loop μ-loop
 add-to c =
-    let t = c .before .before .before .before .before .before in
+    let called = c .before .before .before .before .before in
+    let t = called .before .before in
     let i = t .before .loop .inv in
-    omega (arith, i .2, i .4, t .loop-test .taken, t .before .before .before .before .before .before .before .before .good .1 .1 .1 .0)
+    omega (arith, i .2, i .4, t .loop-test .taken, entry t .good .1 .1 .1 .0)
 
 loop-again : tie.Need-loop-again Inv-loop μ-loop
 loop-again c =
     let w = c .before .before .write in
-    let called = c .before .before .before .before .before .call in
-    let l = c .before .before .before .before .before .before .before .loop in (
+    let called = c .before .before .before .before .before in
+    let l = called .before .before .before .loop in (
       l .inv .0,
       omega arith,
       omega arith,
       same-len-mid (l .to) (length (l .buffer) - l .to) (l .buffer) (w .last .0) (w .kept .0) ∙ l .inv .3,
       l .inv .4,
-      along-next _ _ _ _ (length (l .buffer) - l .to) (w .last .0) (l .inv .5) (omega arith) (called .ensures) (omega arith) refl (w .ensures),
+      along-next _ _ _ _ (length (l .buffer) - l .to) (w .last .0) (l .inv .5) (omega arith) (called .call .ensures) (omega arith) refl (w .ensures),
     )
 
 returns-2 : tie.Need-returns-2 Inv-loop μ-loop
 returns-2 c =
     let l = c .before in
-    let room = l .before .before .if1 .left in
-    let a = l .before .before .before .before .before .before .before .args in (
+    let started = l .before .before in
+    let room = started .if1 .left in
+    let a = started .before .before .before .before .before .args in (
       sym (ran-answered (a .records .now) _ room),
-      along-end _ _ _ _ (l .loop .inv .5) (c .loop-test .left) room ∙ sym (after-answered (a .records .now) (a .tables .now) (a .spectra .now) (a .buffer .now) room),
+      along-end _ _ _ _ (l .loop .inv .5) (c .loop-test .left) room
+          ∙ sym (after-answered (a .records .now) (a .tables .now) (a .spectra .now) (a .buffer .now) room),
     )
 
 pub run-spec : {M : Type 1} → statement M
@@ -74,8 +93,12 @@ run-spec =
     returns
     (λ c κs. search needs)
     loop-holds
-    call-requires
     (λ c. search needs)
+    (λ c. search needs)
+    part-call-start
+    (λ c. search needs)
+    call-requires
+    mul-write
     (λ c. search needs)
     (λ c. search needs)
     (λ c. search needs)

@@ -7,7 +7,7 @@ use borrow.Author.Needs.{needs}
 use lib.ListN.{length, length-set}
 use lib.Seq.{sets}
 use Rattle.endian.specs.Bytes.{words}
-use Rattle.endian.proofs.Stores.{sets-over}
+use Rattle.stores.proofs.Runs.{sets-over}
 use Rattle.endian.proofs.Words.{length-words, words-store, words-stored}
 use Rattle.endian.proofs.read_words.Statement.{statement}
 use Rattle.endian.proofs.read_words.Tie as tie

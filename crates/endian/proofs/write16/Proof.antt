@@ -20,4 +20,6 @@ returns c =
     simp add-one (ap (λ (l : List ℕ). sets (a .buf .now) (a .at) l) (le16-is (a .x) (omega arith)))
 
 pub write16-spec : {M : Type 1} → statement M
-write16-spec = tie.close (tie.spec (λ c. search needs) (λ c. search needs) (λ c. search needs) (λ c. search needs) slice-write-buf-2 (λ c. search needs) returns)
+write16-spec =
+    tie.close
+    (tie.spec (λ c. search needs) (λ c. search needs) (λ c. search needs) (λ c. search needs) slice-write-buf-2 (λ c. search needs) returns)

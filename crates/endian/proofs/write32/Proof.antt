@@ -5,7 +5,7 @@ use Prim.Native.Nat.{ℕ, _+_, _/_, _%_}
 use borrow.Author.Needs.{needs}
 use lib.Seq.{sets}
 use Rattle.endian.specs.Bytes.{le16}
-use Rattle.endian.proofs.Stores.{sets-then}
+use Rattle.stores.proofs.Runs.{sets-then}
 use Rattle.endian.proofs.Parts.{le32-is, length-littleEndian}
 use Rattle.endian.proofs.write32.Statement.{statement}
 use Rattle.endian.proofs.write32.Tie as tie

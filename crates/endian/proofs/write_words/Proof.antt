@@ -25,8 +25,9 @@ loop-holds c = (omega arith, omega arith, refl, refl)
 loop-again : tie.Need-loop-again Inv-loop μ-loop
 loop-again c =
     let w = c .before .before in
-    let l = w .before .before .before .before .loop in
-    let ws = w .before .before .before .before .before .before .before .args .words .now in (
+    let turn = w .before .before .before .before in
+    let l = turn .loop in
+    let ws = turn .before .before .before .args .words .now in (
       omega arith,
       omega arith,
       w .write16 .kept .0 ∙ l .inv .2,

@@ -1,6 +1,9 @@
 -- `host::colour_in_light` meets its contract: its checks run in their order, and 81 readings that pass have a colour. Assumes nothing.
 use borrow.Author.Needs.{needs}
-use Rattle.host.proofs.Spectra.{over-bright, sums-lit, opened, known, refused-light, refused-short, refused-bright, whole}
+use native.Mathlib.Omega.{arith}
+use Rattle.cie.specs.Scales.{readingLimit}
+use Rattle.conditions.proofs.Measuring.{measured-ready}
+use Rattle.host.proofs.Spectra.{over-bright, opened, known, refused-light, refused-short, refused-bright, whole}
 use Rattle.host.proofs.colour_in_light.Statement.{statement}
 use Rattle.host.proofs.colour_in_light.Tie as tie
 
@@ -14,38 +17,41 @@ returns-2 : tie.Need-returns-2
 returns-2 c =
     let p = c .before .before .before in
     let a = p .before .before .args in
-    refused-short (a .light) (a .spectrum .now) (known (a .light) (p .prepare-light .result) (p .prepare-light .ensures) (c .before .enum-told .given .1)) (c .if1 .taken)
+    let clear = known (a .light) (p .prepare-light .result) (p .prepare-light .ensures) (c .before .enum-told .given .1) in
+    refused-short (a .light) (a .spectrum .now) clear (c .if1 .taken)
+
+-- where the readings were read, from where they were measured
+abbrev read : tie.After-measure → tie.After-read-words
+read m = m .before .before .before .before .before .before .before .before .before .before .before
 
 returns-3 : tie.Need-returns-3
 returns-3 c =
     let m = c .before .before in
-    let read = m .before .before .before .before .before .before .before .before in
-    let test = read .before .before in
+    let got = read m in
+    let test = got .before .before in
     let p = test .before .before .before in
     let a = p .before .before .args in
     let clear = known (a .light) (p .prepare-light .result) (p .prepare-light .ensures) (test .before .enum-told .given .1) in
-    refused-bright (a .light) (a .spectrum .now) clear (test .if1 .left) (read .read-words .ensures)
-    (over-bright (p .prepare-light .result .conditions) (read .read-words .last .1 .1 .0) (m .measure .ensures) (search needs) (c .enum-told2 .given .1))
+    refused-bright (a .light) (a .spectrum .now) clear (test .if1 .left) (got .read-words .ensures)
+    (over-bright (p .prepare-light .result .conditions) (got .read-words .last .1 .1 .0) (m .measure .ensures) (search needs) (c .enum-told2 .given .1))
 
 colour-of-requires : tie.Need-colour-of-requires
 colour-of-requires c κs =
     let m = c .before .before .before .before in
-    let read = m .before .before .before .before .before .before .before .before .read-words in
-    let p = m .before .before .before .before .before .before .before .before .before .before .before .before .before .prepare-light in
-    let sound = p .ensures .sound in
-    (sound .point, sound .white, sums-lit (p .result .conditions) (read .last .1 .1 .0) (m .measure .ensures) sound (c .before .before .measured .given .1))
+    let p = read m .before .before .before .before .before .prepare-light in
+    measured-ready (p .result .conditions) (p .ensures .sound) readingLimit (omega arith) (read m .read-words .last .1 .1 .0)
+    (m .measure .ensures) (c .before .before .measured .given .1)
 
 returns-4 : tie.Need-returns-4
 returns-4 c =
     let m = c .before .before .before .before .before in
-    let read = m .before .before .before .before .before .before .before .before in
-    let test = read .before .before in
+    let test = read m .before .before in
     let p = test .before .before .before in
     let a = p .before .before .args in
     let clear = test .before .enum-told .given .1 in
     let light = known (a .light) (p .prepare-light .result) (p .prepare-light .ensures) clear in
     let conditions = opened (a .light) (p .prepare-light .result) (p .prepare-light .ensures) clear in
-    whole (a .light) (a .spectrum .now) light (test .if1 .left) (read .read-words .ensures) (conditions .1)
+    whole (a .light) (a .spectrum .now) light (test .if1 .left) (read m .read-words .ensures) (conditions .1)
     (m .measure .ensures) (c .before .before .before .measured .given .1) (c .colour-of .ensures)
 
 pub colour-in-light-spec : {M : Type 1} → statement M

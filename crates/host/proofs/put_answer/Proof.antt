@@ -1,20 +1,12 @@
 -- `host::put_answer` meets its contract: the five numbers are stored one after the other, and L fits a signed number. Assumes nothing.
-use mathlib.Core.Path.{_≡_}
-use Prim.Native.Nat.{_^_, _<_}
 use native.Mathlib.Omega.{arith}
 use borrow.Author.Needs.{needs}
-use lib.IntN.{ℤ}
-use lib.Signed.{mag}
-use mir.Facts.{toZ-ofZ, toZ-pos}
+use mir.Facts.{toZ-pos}
 use mir.Syntax.{w32}
-use mir.Val.{toZ, ofZ}
+use Rattle.signed.proofs.Passed.{survives}
 use Rattle.host.proofs.Answers.{answer-put}
 use Rattle.host.proofs.put_answer.Statement.{statement}
 use Rattle.host.proofs.put_answer.Tie as tie
-
--- a field of 32 bits, as it is passed
-held : {z : ℤ} → mag z < 2 ^ 31 → toZ w32 (ofZ w32 z) ≡ z
-held {z} h = toZ-ofZ {w = w32} (record { sfits = h })
 
 put-pair-requires-2 : tie.Need-put-pair-requires-2
 put-pair-requires-2 c κs =
@@ -30,7 +22,7 @@ returns c =
     let l = lab .before .before .before .before .before .before in
     let s = l .before .before .before .before in
     answer-put (s .args .out .now) (s .args .colour) (toZ-pos w32 (omega (arith, s .pre .0 .l)))
-    (held (t .0 .1)) (held (t .1 .0 .1)) (held (t .1 .1 .0 .1)) (held (t .1 .1 .1 .0 .1))
+    (survives (t .0 .1)) (survives (t .1 .0 .1)) (survives (t .1 .1 .0 .1)) (survives (t .1 .1 .1 .0 .1))
     (l .write-i32 .ensures) (lab .put-pair .ensures) (luv .put-pair2 .ensures)
 
 pub put-answer-spec : {M : Type 1} → statement M

@@ -11,7 +11,8 @@ returns c =
     let f = c .before .before .before in
     let k = f .before .before in
     let a = k .before .before .before .args in
-    let r = no-room (a .light) (a .spectrum .now) (a .out .now) _ (ap colouredAnswer (sym (f .found2 .given .1)) ∙ k .colour-in-light .ensures) (c .before .if1 .taken) in
+    let found = ap colouredAnswer (sym (f .found2 .given .1)) ∙ k .colour-in-light .ensures in
+    let r = no-room (a .light) (a .spectrum .now) (a .out .now) _ found (c .before .if1 .taken) in
     (c .number2 .ensures ∙ r .0, r .1)
 
 put-answer-requires : tie.Need-put-answer-requires
@@ -35,7 +36,8 @@ returns-3 c =
     let f = p .before .before .before .before in
     let k = f .before .before in
     let a = k .before .before .before .args in
-    written (a .light) (a .spectrum .now) (a .out .now) _ (ap colouredAnswer (sym (f .found2 .given .1)) ∙ k .colour-in-light .ensures) (p .before .before .if1 .left) (p .put-answer .ensures)
+    let found = ap colouredAnswer (sym (f .found2 .given .1)) ∙ k .colour-in-light .ensures in
+    written (a .light) (a .spectrum .now) (a .out .now) _ found (p .before .before .if1 .left) (p .put-answer .ensures)
 
 pub shade-colour-spec : {M : Type 1} → statement M
 shade-colour-spec =

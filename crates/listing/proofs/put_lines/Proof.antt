@@ -27,10 +27,11 @@ loop-holds c = (omega arith, omega arith, refl, left-all)
 put-shade-requires : tie.Need-put-shade-requires Inv-loop μ-loop
 put-shade-requires c κs =
     let l = c .before .before .loop in
-    let n = c .before .before .before .count .ensures in
-    let light = c .before .before .before .before .before .prepare-light .ensures in
-    let s = c .before .before .before .before .before .before .before .before in
-    (opened-d65 light, s .pre .0, omega (arith, n .0), omega (arith, n .1, l .inv .1, l .inv .2))
+    let counted = c .before .before .before in
+    let n = counted .count .ensures in
+    let light = counted .before .before in
+    let s = light .before .before .before in
+    (opened-d65 (light .prepare-light .ensures), s .pre .0, omega (arith, n .0), omega (arith, n .1, l .inv .1, l .inv .2))
 
 loop-again : tie.Need-loop-again Inv-loop μ-loop
 loop-again c =

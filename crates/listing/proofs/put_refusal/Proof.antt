@@ -7,8 +7,9 @@ use Rattle.listing.proofs.put_refusal.Tie as tie
 
 returns : tie.Need-returns
 returns c =
-    let end = c .before .before .put2 .ensures in
-    let p = c .before .before .before .before .before .before .before in
+    let last = c .before .before in
+    let end = last .put2 .ensures in
+    let p = last .before .before .before .before .before in
     let number = p .put-number .ensures in
     let word = p .before .before .before .before .before .put .ensures in
     (then (then word (rw (p .before .number .ensures) at (number .0))) end, omega (arith, word .ends, number .1, end .ends))

@@ -2,8 +2,8 @@
 use mathlib.Core.Path.{sym, ap, _∙_, subst}
 use borrow.Author.Needs.{needs}
 use Rattle.cie.specs.Lights.{lightD65}
-use Rattle.colour.specs.Conditions.{Sound}
-use Rattle.colour.proofs.Preparing.{sound-light}
+use Rattle.conditions.specs.Conditions.{Sound}
+use Rattle.conditions.proofs.Sound.{sound-light}
 use Rattle.text.proofs.Puts.{same}
 use Rattle.listing.specs.Listing.{shadeColour}
 use Rattle.listing.proofs.Lines.{line-same, colour-d65, spectrum-fair}
@@ -12,9 +12,11 @@ use Rattle.listing.proofs.put_shade.Tie as tie
 
 colour-under-requires : tie.Need-colour-under-requires
 colour-under-requires c κs =
-    let got = c .before .before .before .spectrum-at .ensures in
-    let s = c .before .before .before .before .before .before .before in
-    (subst Sound (sym (s .pre .0)) (sound-light lightD65), spectrum-fair (s .args .book .now) (s .args .i) (s .pre .1) (search needs) got)
+    let got = c .before .before .before in
+    let s = got .before .before .before .before in (
+      subst Sound (sym (s .pre .0)) (sound-light lightD65),
+      spectrum-fair (s .args .book .now) (s .args .i) (s .pre .1) (search needs) (got .spectrum-at .ensures),
+    )
 
 returns : tie.Need-returns
 returns c =

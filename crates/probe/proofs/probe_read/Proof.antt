@@ -1,7 +1,7 @@
 -- `probe::probe_read` meets its contract: its number is that of what the read answers. Assumes nothing.
 use mathlib.Core.Path.{sym, ap, _∙_}
 use borrow.Author.Needs.{needs}
-use Rattle.book.specs.Calls.{readAnswer}
+use Rattle.book.specs.Reading.{readAnswer}
 use Rattle.probe.specs.Probe.{readCode}
 use Rattle.probe.proofs.probe_read.Statement.{statement}
 use Rattle.probe.proofs.probe_read.Tie as tie

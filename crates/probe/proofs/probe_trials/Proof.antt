@@ -13,7 +13,8 @@ returns c =
     let s = t .before in
     let a = s .before .before .before .args in
     c .passed-in .ensures
-    ∙ counted (a .light) (a .standard .now) (a .trial .now) (a .amount) (a .count) (s .session-for .ensures .0) (t .after-trials .ensures .0) (ap (λ (x : Reply). x .outcome) (r .report .ensures .reply))
+    ∙ counted (a .light) (a .standard .now) (a .trial .now) (a .amount) (a .count) (s .session-for .ensures .0) (t .after-trials .ensures .0)
+    (ap (λ (x : Reply). x .outcome) (r .report .ensures .reply))
 
 pub probe-trials-spec : {M : Type 1} → statement M
 probe-trials-spec =

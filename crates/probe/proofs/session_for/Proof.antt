@@ -10,8 +10,11 @@ returns c =
     let s = t .before in
     let o = s .before in
     let f = o .before in
-    let a = f .before .before .args in
-    (ready (a .light) (a .standard .now) (a .amount) (f .fresh .ensures .0) (left (o .open-light .ensures)) (left (s .set-standard .ensures)) (left (t .set-tolerance .ensures)), t .set-tolerance .ensures .valid)
+    let a = f .before .before .args in (
+      ready (a .light) (a .standard .now) (a .amount) (f .fresh .ensures .0)
+          (left (o .open-light .ensures)) (left (s .set-standard .ensures)) (left (t .set-tolerance .ensures)),
+      t .set-tolerance .ensures .valid,
+    )
 
 pub session-for-spec : {M : Type 1} → statement M
 session-for-spec =

@@ -5,10 +5,10 @@ use Rattle.replay.proofs.play_all.Statement.{statement}
 use Rattle.replay.proofs.play_all.Tie as tie
 
 abbrev Inv-loop : tie.InvT-loop
-Inv-loop pool₀ readings₀ next₀ turns₀ pool readings next turns = Valid (next .session)
+Inv-loop pool₀ next₀ turns₀ pool next turns = Valid (next .session)
 
 abbrev μ-loop : tie.MeasureT-loop
-μ-loop pool₀ readings₀ next₀ turns₀ pool readings next turns = turns
+μ-loop pool₀ next₀ turns₀ pool next turns = turns
 
 pub play-all-spec : {M : Type 1} → statement M
 play-all-spec =
@@ -16,6 +16,13 @@ play-all-spec =
     (tie.spec
     Inv-loop
     μ-loop
+    (λ c. search needs)
+    (λ c κs. search needs)
+    (λ c. search needs)
+    (λ c κs. search needs)
+    (λ c. search needs)
+    (λ c κs. search needs)
+    (λ c. search needs)
     (λ c. search needs)
     (λ c κs. search needs)
     (λ c. search needs)

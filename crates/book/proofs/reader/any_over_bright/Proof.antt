@@ -24,15 +24,19 @@ loop-holds c = (omega arith, omega arith, refl)
 
 returns : tie.Need-returns Inv-loop μ-loop
 returns c =
-    let l = c .before .before .before .loop in
-    bodies-off readingLimit rows (c .before .before .before .before .before .args .s .now) (l .at) (l .left - 1) (omega arith) (sym (c .before .body-over-bright .ensures) ∙ c .if1 .taken) ∙ l .inv .2
+    let turn = c .before .before .before in
+    let l = turn .loop in
+    bodies-off readingLimit rows (turn .before .before .args .s .now) (l .at) (l .left - 1) (omega arith)
+    (sym (c .before .body-over-bright .ensures) ∙ c .if1 .taken) ∙ l .inv .2
 
 loop-again : tie.Need-loop-again Inv-loop μ-loop
 loop-again c =
-    let l = c .before .before .before .loop in (
+    let turn = c .before .before .before in
+    let l = turn .loop in (
       omega arith,
       omega arith,
-      bodies-on readingLimit rows (c .before .before .before .before .before .args .s .now) (l .at) (l .left - 1) (omega arith) (sym (c .before .body-over-bright .ensures) ∙ c .if1 .left) ∙ l .inv .2,
+      bodies-on readingLimit rows (turn .before .before .args .s .now) (l .at) (l .left - 1) (omega arith)
+          (sym (c .before .body-over-bright .ensures) ∙ c .if1 .left) ∙ l .inv .2,
     )
 
 returns-2 : tie.Need-returns-2 Inv-loop μ-loop

@@ -7,16 +7,18 @@ use Rattle.book.proofs.reader.entry_right.Statement.{statement}
 use Rattle.book.proofs.reader.entry_right.Tie as tie
 
 returns : tie.Need-returns
-returns c =
-    entry-low rows _ _ _ _ (c .before .read16 .ensures) (omega arith)
+returns c = entry-low rows _ _ _ _ (c .before .read16 .ensures) (omega arith)
 
 returns-2 : tie.Need-returns-2
 returns-2 c =
-    entry-long rows _ _ _ _ (c .before .before .before .read16 .ensures) (c .before .before .if1 .left) (c .before .read162 .ensures) (c .if2 .taken)
+    let t₁ = c .before .before in
+    entry-long rows _ _ _ _ (t₁ .before .read16 .ensures) (t₁ .if1 .left) (c .before .read162 .ensures) (c .if2 .taken)
 
 returns-3 : tie.Need-returns-3
 returns-3 c =
-    entry-last rows _ _ _ _ (c .before .before .before .before .read16 .ensures) (c .before .before .before .if1 .left) (c .before .before .read162 .ensures) (c .before .if2 .left) (c .read32 .ensures)
+    let t₂ = c .before in
+    let t₁ = t₂ .before .before in
+    entry-last rows _ _ _ _ (t₁ .before .read16 .ensures) (t₁ .if1 .left) (t₂ .before .read162 .ensures) (t₂ .if2 .left) (c .read32 .ensures)
 
 pub entry-right-spec : {M : Type 1} → statement M
 entry-right-spec =

@@ -1,9 +1,9 @@
 -- `book::reader::find` meets its contract: the place among the shades that are left, after those that were passed, is the place among all. Assumes nothing.
-use Prim.Native.Nat.{_≤_, _-_, _+_}
+use Prim.Native.Nat.{_≤_, _<_, _-_, _+_}
 use mathlib.Core.Path.{_≡_, sym, _∙_}
 use native.Mathlib.Omega.{arith}
 use borrow.Author.Needs.{needs}
-use lib.ListN.{drop}
+use lib.ListN.{length, drop}
 use Rattle.book.specs.Book.{countOf, numbersOf, indexOf}
 use Rattle.book.proofs.Tests.{index-here, index-on, index-end}
 use Rattle.book.proofs.Rules.{length-numbersOf}
@@ -21,17 +21,23 @@ loop-holds c = (omega arith, c .count .ensures .0, omega arith)
 
 returns : tie.Need-returns Inv-loop μ-loop
 returns c =
-    let l = c .before .before .before .loop in
-    let a = c .before .before .before .before .before .before .args in
-    omega (arith, l .inv .2, index-here (numbersOf (a .s .now)) (l .i) (a .number) (omega (arith, length-numbersOf (a .s .now))) (sym (c .before .number-at .ensures) ∙ c .if1 .taken))
+    let turn = c .before .before .before in
+    let l = turn .loop in
+    let a = turn .before .before .before .args in
+    let numbers = numbersOf (a .s .now) in
+    let within : l .i < length numbers = omega (arith, length-numbersOf (a .s .now)) in
+    omega (arith, l .inv .2, index-here numbers (l .i) (a .number) within (sym (c .before .number-at .ensures) ∙ c .if1 .taken))
 
 loop-again : tie.Need-loop-again Inv-loop μ-loop
 loop-again c =
-    let l = c .before .before .before .loop in
-    let a = c .before .before .before .before .before .before .args in (
+    let turn = c .before .before .before in
+    let l = turn .loop in
+    let a = turn .before .before .before .args in
+    let numbers = numbersOf (a .s .now) in
+    let within : l .i < length numbers = omega (arith, length-numbersOf (a .s .now)) in (
       omega arith,
       l .inv .1,
-      omega (arith, l .inv .2, index-on (numbersOf (a .s .now)) (l .i) (a .number) (omega (arith, length-numbersOf (a .s .now))) (λ e. c .if1 .left (c .before .number-at .ensures ∙ e))),
+      omega (arith, l .inv .2, index-on numbers (l .i) (a .number) within (λ e. c .if1 .left (c .before .number-at .ensures ∙ e))),
     )
 
 returns-2 : tie.Need-returns-2 Inv-loop μ-loop

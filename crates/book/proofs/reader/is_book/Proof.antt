@@ -29,9 +29,11 @@ returns-6 c =
     let t₄ = t₅ .before .before in
     let t₃ = t₄ .before in
     let t₂ = t₃ .before .before in
+    let t₁ = t₂ .before .before .before in
+    let begins = holds (t₂ .before .starts-with .ensures) (t₂ .if2 .left) in
+    let entries = holds (t₅ .before .entries-right .ensures) (t₅ .if5 .left) in
     ap not (c .any-over-bright .ensures)
-    ∙ last-rule rows _ (t₃ .before .read16 .ensures) (t₂ .before .before .before .if1 .left) (holds (t₂ .before .starts-with .ensures) (t₂ .if2 .left)) (t₃ .if3 .left) (t₄ .if4 .left)
-    (holds (t₅ .before .entries-right .ensures) (t₅ .if5 .left))
+    ∙ last-rule rows _ (t₃ .before .read16 .ensures) (t₁ .if1 .left) begins (t₃ .if3 .left) (t₄ .if4 .left) entries
 
 pub is-book-spec : {M : Type 1} → statement M
 is-book-spec =

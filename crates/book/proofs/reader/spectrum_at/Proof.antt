@@ -11,16 +11,20 @@ use Rattle.book.proofs.reader.spectrum_at.Statement.{statement}
 use Rattle.book.proofs.reader.spectrum_at.Tie as tie
 
 read-words-requires : tie.Need-read-words-requires
-read-words-requires c κs = omega (arith, c .before .count .ensures .0, rules rows (c .before .before .before .before .args .s .now) (c .before .before .before .before .pre .0) .whole)
+read-words-requires c κs =
+    let counted = c .before in
+    let start = counted .before .before .before in
+    omega (arith, counted .count .ensures .0, rules rows (start .args .s .now) (start .pre .0) .whole)
 
 returns : tie.Need-returns
 returns c =
-    let n = c .before .before .before .before .count in
-    let s = c .before .before .before .before .before .before .before in
-    let a = s .args in
+    let counted = c .before .before .before .before in
+    let start = counted .before .before .before in
+    let n = counted .count in
+    let a = start .args in
     c .before .before .read-words .ensures
-    ∙ ap (λ (k : ℕ). words (a .s .now) (bodiesAt (n .result) + bodyLength rows * a .i) 2 k) (s .pre .2)
-    ∙ spectrum-is (a .s .now) (a .i) (s .pre .1) rows (n .ensures .0)
+    ∙ ap (λ (k : ℕ). words (a .s .now) (bodiesAt (n .result) + bodyLength rows * a .i) 2 k) (start .pre .2)
+    ∙ spectrum-is (a .s .now) (a .i) (start .pre .1) rows (n .ensures .0)
 
 pub spectrum-at-spec : {M : Type 1} → statement M
 spectrum-at-spec =

@@ -12,10 +12,12 @@ returns-2 c = laid-coloured (c .before .before .answer .given .1) (c .colour-wor
 
 returns-3 : tie.Need-returns-3
 returns-3 c =
-    laid-tried (c .before .before .before .before .answer2 .given .1) (c .before .before .amount-of .ensures .0) (c .before .before .amount-of .ensures .1) (c .before .verdict-word .ensures) (c .colour-words2 .ensures)
+    let amount = c .before .before in
+    let told = amount .before .before .before .answer2 .given .1 in
+    laid-tried told (amount .amount-of .ensures .0) (amount .amount-of .ensures .1) (c .before .verdict-word .ensures) (c .colour-words2 .ensures)
 
 returns-4 : tie.Need-returns-4
-returns-4 c = laid-counted (c .before .before .answer3 .given .1) (c .short-words2 .ensures)
+returns-4 c = laid-counted (c .before .before .before .answer3 .given .1) (c .short-words2 .ensures)
 
 returns-5 : tie.Need-returns-5
 returns-5 c = laid-refused (c .before .before .before .answer4 .given .1) (c .before .number .ensures) (c .short-words3 .ensures)

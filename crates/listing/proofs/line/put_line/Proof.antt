@@ -1,27 +1,25 @@
 -- `listing::line::put_line` meets its contract: its pieces are put one after the other, and the longest are 21, 24, 24 and 1 bytes.
 -- Assumes nothing.
-use mathlib.Core.Path.{_≡_, refl, _∙_}
-use Prim.Native.Nat.{_^_, _<_}
+use mathlib.Core.Path.{refl, _∙_}
 use native.Mathlib.Omega.{arith}
 use borrow.Author.Needs.{needs}
-use lib.IntN.{ℤ}
-use lib.Signed.{mag}
-use mir.Facts.{toZ-ofZ}
-use mir.Syntax.{w32}
-use mir.Val.{toZ, ofZ}
+use Rattle.signed.proofs.Passed.{survives}
 use Rattle.listing.proofs.Lines.{line-put}
 use Rattle.listing.proofs.line.put_line.Statement.{statement}
 use Rattle.listing.proofs.line.put_line.Tie as tie
-
--- a field of 32 bits, as it is passed
-held : {z : ℤ} → mag z < 2 ^ 31 → toZ w32 (ofZ w32 z) ≡ z
-held {z} h = toZ-ofZ {w = w32} (record { sfits = h })
 
 put-pair-requires-2 : tie.Need-put-pair-requires-2
 put-pair-requires-2 c κs =
     let lab = c .before .before .before .before .before in
     let start = lab .before .before .before .before .before .before in
-    omega (arith, lab .put-pair .ensures .1, lab .put-pair .kept .0, start .put-start .ensures .1, start .put-start .kept .0, start .before .before .before .pre)
+    omega (
+      arith,
+      lab .put-pair .ensures .1,
+      lab .put-pair .kept .0,
+      start .put-start .ensures .1,
+      start .put-start .kept .0,
+      start .before .before .before .pre,
+    )
 
 put-requires : tie.Need-put-requires
 put-requires c κs =
@@ -41,15 +39,17 @@ put-requires c κs =
 
 same-length : tie.Need-same-length
 same-length c =
-    let luv = c .before .before .before .before .before .before .before in
+    let end = c .before .before in
+    let luv = end .before .before .before .before .before in
     let lab = luv .before .before .before .before .before .before in
     let start = lab .before .before .before .before .before .before in
-    c .before .before .put .kept .0 ∙ luv .put-pair2 .kept .0 ∙ lab .put-pair .kept .0 ∙ start .put-start .kept .0
+    end .put .kept .0 ∙ luv .put-pair2 .kept .0 ∙ lab .put-pair .kept .0 ∙ start .put-start .kept .0
 
 returns : tie.Need-returns
 returns c =
-    let p₄ = c .before .before .put .ensures in
-    let luv = c .before .before .before .before .before .before .before in
+    let end = c .before .before in
+    let p₄ = end .put .ensures in
+    let luv = end .before .before .before .before .before in
     let p₃ = luv .put-pair2 .ensures in
     let t = luv .before .struct-told4 .given .1 .1 .1 in
     let lab = luv .before .before .before .before .before .before in
@@ -57,7 +57,8 @@ returns c =
     let start = lab .before .before .before .before .before .before in
     let p₁ = start .put-start .ensures in
     let a = start .before .before .before .args in (
-      line-put (a .number) (a .colour) refl (held (t .0 .1)) (held (t .1 .0 .1)) (held (t .1 .1 .0 .1)) (held (t .1 .1 .1 .0 .1)) (p₁ .0) (p₂ .0) (p₃ .0) p₄,
+      line-put (a .number) (a .colour) refl (survives (t .0 .1)) (survives (t .1 .0 .1)) (survives (t .1 .1 .0 .1)) (survives (t .1 .1 .1 .0 .1))
+          (p₁ .0) (p₂ .0) (p₃ .0) p₄,
       omega (arith, p₁ .1, p₂ .1, p₃ .1, p₄ .ends),
     )
 

@@ -10,12 +10,16 @@ use Rattle.session.proofs.Session.open_light.Tie as tie
 returns : tie.Need-returns
 returns c =
     let p = c .before .before .before .before .before in
-    meets _ _ _ (p .before .pre) (c .refused .ensures ∙ sym (opening-refused (p .before .args .self) _ _ (p .prepare-light .ensures) (c .before .before .checked .given .1)))
+    let told = opening-refused (p .before .args .self) _ _ (p .prepare-light .ensures) (c .before .before .checked .given .1) in
+    meets _ _ _ (p .before .pre) (c .refused .ensures ∙ sym told)
 
 returns-2 : tie.Need-returns-2
 returns-2 c =
     let p = c .before .before .before .before in
-    meets _ _ _ (p .before .pre) (c .reopened .ensures ∙ sym (opening-clear (p .before .args .self) _ _ (p .prepare-light .ensures) (c .before .enum-told .given .1)))
+    let told = opening-clear (p .before .args .self) _ _ (p .prepare-light .ensures) (c .before .enum-told .given .1) in
+    meets _ _ _ (p .before .pre) (c .reopened .ensures ∙ sym told)
 
 pub open-light-spec : {M : Type 1} → statement M
-open-light-spec = tie.close (tie.spec (λ c κs. search needs) (λ c. search needs) (λ c κs. search needs) (λ c. search needs) (λ c κs. search needs) returns returns-2)
+open-light-spec =
+    tie.close
+    (tie.spec (λ c κs. search needs) (λ c. search needs) (λ c κs. search needs) (λ c. search needs) (λ c κs. search needs) returns returns-2)

@@ -4,7 +4,8 @@ use denote.Ref.{now}
 use borrow.Author.Needs.{needs}
 use Rattle.causes.specs.Checks.{firstOf}
 use Rattle.cie.specs.Sums.{Tables, tablesOf}
-use Rattle.colour.specs.Conditions.{tableChecks, conditionsOf}
+use Rattle.conditions.specs.Checks.{tableChecks}
+use Rattle.conditions.specs.Conditions.{conditionsOf}
 use Rattle.session.proofs.Valid.{meets}
 use Rattle.session.proofs.Replies.{opening-refused, opening-clear}
 use Rattle.session.proofs.Session.open_tables.Statement.{statement}
@@ -18,13 +19,19 @@ returns : tie.Need-returns
 returns c =
     let p = c .before .before .before .before .before in
     let start = p .before .before .before .before .before in
-    meets _ _ _ (start .pre) (c .refused .ensures ∙ sym (opening-refused (start .args .self) (firstOf (tableChecks (tables start))) (conditionsOf (tables start)) (p .prepare .ensures) (c .before .before .checked .given .1)))
+    let t = tables start in
+    let told = opening-refused (start .args .self) (firstOf (tableChecks t)) (conditionsOf t) (p .prepare .ensures) (c .before .before .checked .given .1) in
+    meets _ _ _ (start .pre) (c .refused .ensures ∙ sym told)
 
 returns-2 : tie.Need-returns-2
 returns-2 c =
     let p = c .before .before .before .before in
     let start = p .before .before .before .before .before in
-    meets _ _ _ (start .pre) (c .reopened .ensures ∙ sym (opening-clear (start .args .self) (firstOf (tableChecks (tables start))) (conditionsOf (tables start)) (p .prepare .ensures) (c .before .enum-told .given .1)))
+    let t = tables start in
+    let told = opening-clear (start .args .self) (firstOf (tableChecks t)) (conditionsOf t) (p .prepare .ensures) (c .before .enum-told .given .1) in
+    meets _ _ _ (start .pre) (c .reopened .ensures ∙ sym told)
 
 pub open-tables-spec : {M : Type 1} → statement M
-open-tables-spec = tie.close (tie.spec (λ c κs. search needs) (λ c. search needs) (λ c κs. search needs) (λ c. search needs) (λ c κs. search needs) returns returns-2)
+open-tables-spec =
+    tie.close
+    (tie.spec (λ c κs. search needs) (λ c. search needs) (λ c κs. search needs) (λ c. search needs) (λ c κs. search needs) returns returns-2)

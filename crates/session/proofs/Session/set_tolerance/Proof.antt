@@ -1,7 +1,6 @@
 -- One test decides. Assumes nothing.
 use mathlib.Core.Path.{sym, _∙_, ap}
 use borrow.Author.Needs.{needs}
-use borrow.Author.Tests.{lt-ltb, le-ltb}
 use Rattle.causes.proofs.Checks.{fires, passes, ends}
 use Rattle.session.specs.Served.{toleranceBy}
 use Rattle.session.proofs.Valid.{meets}
@@ -9,13 +8,17 @@ use Rattle.session.proofs.Session.set_tolerance.Statement.{statement}
 use Rattle.session.proofs.Session.set_tolerance.Tie as tie
 
 returns : tie.Need-returns
-returns c = meets _ _ _ (c .before .before .pre) (c .refused .ensures ∙ sym (fires _ _ _ _ _ (lt-ltb _ _ (c .before .if1 .taken))))
+returns c =
+    let off = sym (c .before .before .off-scale .ensures) ∙ c .before .if1 .taken in
+    meets _ _ _ (c .before .before .before .pre) (c .refused .ensures ∙ sym (fires _ _ _ _ _ off))
 
 returns-2 : tie.Need-returns-2
 returns-2 c =
-    let start = c .before .before .before in
+    let test = c .before .before in
+    let start = test .before .before in
+    let on = sym (test .before .off-scale .ensures) ∙ test .if1 .left in
     meets _ _ _ (start .pre)
-    (c .with-tolerance .ensures ∙ ap (toleranceBy (start .args .self)) (c .before .tolerance-of .ensures) ∙ sym (passes _ _ _ _ _ (le-ltb _ _ (c .before .before .if1 .left)) ∙ ends _ _))
+    (c .with-tolerance .ensures ∙ ap (toleranceBy (start .args .self)) (c .before .tolerance-of .ensures) ∙ sym (passes _ _ _ _ _ on ∙ ends _ _))
 
 pub set-tolerance-spec : {M : Type 1} → statement M
-set-tolerance-spec = tie.close (tie.spec (λ c κs. search needs) returns (λ c κs. search needs) (λ c κs. search needs) returns-2)
+set-tolerance-spec = tie.close (tie.spec (λ c κs. search needs) (λ c κs. search needs) returns (λ c κs. search needs) (λ c κs. search needs) returns-2)

@@ -1,0 +1,32 @@
+-- Document 01, "Shade book": what a read answers and what it leaves, refusals included. Assumes nothing.
+use Prim.Native.Nat.{ℕ}
+use mathlib.Core.Bool.{not}
+use mathlib.Core.List.{List, [], _∷_}
+use lib.ListN.{length}
+use lib.Dec.{eqb}
+use Rattle.causes.specs.declared.Cause.the-variants.{ShortTable, NotABook, NoSuchShade}
+use Rattle.causes.specs.Causes.{causeNumber, Numbered, accepted, refused}
+use Rattle.causes.specs.Checks.{Check, check, firstOf, unless, numbered}
+use Rattle.book.specs.Book.{numbersOf, isBook, isIn, shadeOf}
+use Rattle.book.specs.declared.Found.{Found}
+use Rattle.book.specs.declared.Found.the-variants.{Read, Refused}
+
+-- what a read answers, in the paper's numbers
+abbrev pub readAnswer : Found → Numbered ℕ
+readAnswer Read = accepted 0
+readAnswer (Refused cause) = refused (causeNumber cause)
+
+-- "Read one shade into 81 places: 1, 11, 12."
+unfoldable pub readChecks : ℕ → List ℕ → ℕ → ℕ → List Check
+readChecks rows book number places =
+    check (not (eqb places rows)) ShortTable
+    ∷ check (not (isBook rows book)) NotABook
+    ∷ check (not (isIn number (numbersOf book))) NoSuchShade
+    ∷ []
+
+unfoldable pub found : ℕ → List ℕ → ℕ → ℕ → Numbered ℕ
+found rows book number places = numbered (firstOf (readChecks rows book number places)) 0
+
+unfoldable pub placesAfterRead : ℕ → List ℕ → ℕ → List ℕ → List ℕ
+placesAfterRead rows book number places =
+    unless (firstOf (readChecks rows book number (length places))) (λ _. places) (shadeOf rows book number)

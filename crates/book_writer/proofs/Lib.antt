@@ -1,0 +1,5 @@
+pub mod Tests
+pub mod Stored
+pub mod Outcomes
+pub mod Back
+pub mod Theorems

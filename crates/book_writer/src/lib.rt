@@ -1,0 +1,45 @@
+// The shade book's writer: `write` makes a book of shades.
+mod parts;
+
+use book::layout::BODY;
+use book::layout::ENTRY;
+use book::layout::HEAD;
+use book::layout::MOST_SHADES;
+use causes::Cause;
+use cie::spectrum::READING_LIMIT;
+ghost use mathlib.Core.Path.{_≡_};
+ghost use lib.ListN.{length};
+ghost use Rattle.cie.specs.Scales.{rows};
+ghost use Rattle.book_writer.specs.Writing.{writeAnswer, written, bufferAfterWrite};
+
+// What a write answers: the book's length, or a cause.
+pub enum Written {
+    Total(usize),
+    Refused(Cause),
+}
+
+// Writes the book of some shades into the buffer: their numbers, and 81 readings for each, one shade after the other.
+pub fn write(numbers: &[u16], spectra: &[u16], buffer: &mut [u8]) -> Written
+    ensures { λ r. ⌜ writeAnswer r ≡ written rows (now (numbers .entry)) (now (spectra .entry)) (length (now (buffer .entry))) ⌝ }
+    ensures { λ _. ⌜ now (buffer .exit) ≡ bufferAfterWrite rows (now (numbers .entry)) (now (spectra .entry)) (now (buffer .entry)) ⌝ }
+{
+    let n = numbers.len();
+    if !parts::fills(spectra, n) {
+        return Written::Refused(Cause::ShortTable);
+    }
+    if n > MOST_SHADES {
+        return Written::Refused(Cause::TooManyShades);
+    }
+    if !parts::is_rising(numbers) {
+        return Written::Refused(Cause::OutOfOrder);
+    }
+    if cie::spectrum::over_bright(spectra, READING_LIMIT) {
+        return Written::Refused(Cause::OverBright);
+    }
+    let total = HEAD + (ENTRY + BODY) * n;
+    if buffer.len() < total {
+        return Written::Refused(Cause::ShortBuffer);
+    }
+    parts::put_book(buffer, numbers, spectra);
+    Written::Total(total)
+}

@@ -1,0 +1,72 @@
+-- What an opening prepares of tables that pass their checks. Assumes nothing.
+use mathlib.Core.Path.{_≡_}
+use Prim.Native.Nat.{ℕ, _≤_}
+use lib.ListN.{replicate}
+use Rattle.causes.specs.declared.Checked.{Checked}
+use Rattle.causes.specs.declared.Checked.the-variants.{Clear, Because}
+use Rattle.causes.specs.Causes.{causeNumber, Numbered, accepted, refused}
+use Rattle.causes.specs.Checks.{firstOf, numbered}
+use Rattle.cie.specs.Scales.{rows, whiteReading}
+use Rattle.cie.specs.Sums.{Tables, whiteOf, White}
+use Rattle.cie.specs.Lights.{lightTables}
+use Rattle.colour.specs.White.{whitePointOf}
+use Rattle.conditions.specs.declared.Conditions.{Conditions}
+use Rattle.conditions.specs.declared.Prepared.{Prepared}
+use Rattle.conditions.specs.Weights.{weightsOf, dot, whiteReadings, Weights}
+use Rattle.conditions.specs.Checks.{tableChecks, lightChecks}
+
+-- what is prepared of tables that pass
+abbrev pub conditionsOf : Tables → Conditions
+conditionsOf t =
+    record {
+      x = weightsOf (t .illuminant) (t .x);
+      y = weightsOf (t .illuminant) (t .y);
+      z = weightsOf (t .illuminant) (t .z);
+      white = whitePointOf (whiteOf t);
+    }
+
+-- stands where nothing is opened: no weight, and some white, so that soundness needs no exception
+unfoldable pub noConditions : Conditions
+noConditions =
+    record {
+      x = replicate rows 0;
+      y = replicate rows 0;
+      z = replicate rows 0;
+      white = whitePointOf (record { x = whiteReading; y = whiteReading; z = whiteReading });
+    }
+
+-- what preparing answers, in the paper's numbers: the conditions, or the number of the cause that stands beside them
+abbrev pub checkedAnswer : Checked → Conditions → Numbered Conditions
+checkedAnswer Clear c = accepted c
+checkedAnswer (Because cause) c = refused (causeNumber cause)
+
+abbrev pub prepareAnswer : Prepared → Numbered Conditions
+prepareAnswer p = checkedAnswer (p .checked) (p .conditions)
+
+-- the conditions of such an answer: none where it is refused
+abbrev pub conditionsIn : Numbered Conditions → Conditions
+conditionsIn (accepted c) = c
+conditionsIn (refused n) = noConditions
+
+abbrev pub preparedOf : Tables → Numbered Conditions
+preparedOf t = numbered (firstOf (tableChecks t)) (conditionsOf t)
+
+abbrev pub preparedLight : ℕ → Numbered Conditions
+preparedLight light = numbered (firstOf (lightChecks light)) (conditionsOf (lightTables light))
+
+-- what holds of prepared conditions
+pub record Sound (c : Conditions) : Type 0 where
+  pub weights-x : Weights (c .x)
+  pub weights-y : Weights (c .y)
+  pub weights-z : Weights (c .z)
+  pub least-x : dot whiteReadings (c .x) ≤ c .white .sums .x
+  pub least-y : dot whiteReadings (c .y) ≤ c .white .sums .y
+  pub least-z : dot whiteReadings (c .z) ≤ c .white .sums .z
+  pub point : c .white ≡ whitePointOf (c .white .sums)
+  pub white : White (c .white .sums)
+
+-- what a preparation promises: its answer, the conditions beside it, and that they are sound
+pub record Prepares (n : Numbered Conditions) (p : Prepared) : Type 0 where
+  pub answer : prepareAnswer p ≡ n
+  pub beside : p .conditions ≡ conditionsIn n
+  pub sound : Sound (p .conditions)

@@ -1,0 +1,4 @@
+pub mod Weights
+pub mod Checks
+pub mod Conditions
+pub mod Measure
