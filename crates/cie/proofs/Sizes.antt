@@ -28,11 +28,9 @@ use Rattle.cie.proofs.Whites.{above-zero, white-x, white-y, white-z, wh
 ratio-size : (N D : ℕ) → N ≤ D → chromaticityScale * N / D ≤ chromaticityScale
 ratio-size N D h = div-le-of-le-mul D (omega arith)
 
-pub u-prime-size : (s : Sums) → prime (uOver s) (uvUnder s) ≤ 40000000
-u-prime-size s = div-le-of-le-mul (uvUnder s) (omega arith)
-
-pub v-prime-size : (s : Sums) → prime (vOver s) (uvUnder s) ≤ 6000000
-v-prime-size s = div-le-of-le-mul (uvUnder s) (omega arith)
+-- u' or v': 4 X and 9 Y are at most four times X + 15 Y + 3 Z
+pub prime-size : (A S : ℕ) → A ≤ 4 * S → prime A S ≤ 40000000
+prime-size A S h = div-le-of-le-mul S (omega arith)
 
 -- a or b, by the steps' size
 scaled-size : (k a b n : ℕ) → a ≤ n → b ≤ n → natAbs (pos k *ℤ (pos a -ℤ pos b)) ≤ k * n

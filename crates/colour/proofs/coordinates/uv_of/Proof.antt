@@ -2,12 +2,11 @@
 use borrow.Author.Needs.{needs}
 use mathlib.Core.Path.{_≡_, ap, _∙_}
 use Prim.Native.Nat.{ℕ, _*_, _^_, _≤_, _<_}
-use native.Mathlib.Nat.{le-trans}
 use native.Mathlib.Omega.{arith}
 use lib.Dec.{lit≤}
 use mir.Facts.{toZ-ofZ}
 use Rattle.cie.specs.Colour.{uOver, vOver, uvUnder, prime, uOf, vOf, lAt, uvFactor, primeScale}
-use Rattle.cie.proofs.Sizes.{l-size, u-prime-size, v-prime-size}
+use Rattle.cie.proofs.Sizes.{l-size, prime-size}
 use Rattle.colour.specs.declared.white.WhitePoint.{WhitePoint}
 use Rattle.colour.proofs.Fractions.{primes-fit}
 use Rattle.colour.proofs.Planes.{share-fits, divides, no-coordinate, coordinate-is}
@@ -51,23 +50,24 @@ v-is c = c .prime2 .ensures ∙ ap (prime (vOver (start c .args .s))) (c .before
 mul-share : tie.Need-mul-share
 mul-share c = let p = start c .pre in omega (arith, p .3, l-size (p .1) (p .2))
 
--- 13 L times the sample's u' or v', and times the white's
+-- 13 L times u' or v', of the sample or the white
 module _ (s : tie.Start) where
-  fits : {m n : ℕ} → m ≡ n → n ≤ 40000000 → uvFactor * s .args .l * m < 2 ^ 31 * primeScale
-  fits e h = share-fits (s .args .l) (lAt 1 (s .args .white .sums) (s .args .s)) _ _ (s .pre .3) e (l-size (s .pre .1) (s .pre .2)) h
+  fits : (A S : ℕ) {m : ℕ} → m ≡ prime A S → A ≤ 4 * S → uvFactor * s .args .l * m < 2 ^ 31 * primeScale
+  fits A S e h =
+      share-fits (s .args .l) (lAt 1 (s .args .white .sums) (s .args .s)) _ (prime A S) (s .pre .3) e (l-size (s .pre .1) (s .pre .2)) (prime-size A S h)
 
 share-requires : tie.Need-share-requires
 share-requires c κs =
     let s = start c in (
-      fits s (u-is c) (u-prime-size (s .args .s)),
-      fits s (ap (λ (w : WhitePoint). w .u) (s .pre .0)) (u-prime-size (s .args .white .sums)),
+      fits s (uOver (s .args .s)) (uvUnder (s .args .s)) (u-is c) (omega arith),
+      fits s (uOver (s .args .white .sums)) (uvUnder (s .args .white .sums)) (ap (λ (w : WhitePoint). w .u) (s .pre .0)) (omega arith),
     )
 
 share-requires-2 : tie.Need-share-requires-2
 share-requires-2 c κs =
     let s = start (c .before) in (
-      fits s (v-is (c .before)) (le-trans (v-prime-size (s .args .s)) (lit≤ tt)),
-      fits s (ap (λ (w : WhitePoint). w .v) (s .pre .0)) (le-trans (v-prime-size (s .args .white .sums)) (lit≤ tt)),
+      fits s (vOver (s .args .s)) (uvUnder (s .args .s)) (v-is (c .before)) (omega arith),
+      fits s (vOver (s .args .white .sums)) (uvUnder (s .args .white .sums)) (ap (λ (w : WhitePoint). w .v) (s .pre .0)) (omega arith),
     )
 
 returns-2 : tie.Need-returns-2
