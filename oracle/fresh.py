@@ -4,10 +4,10 @@ import book
 import exact
 from chance import Chance
 from colour import colour, difference
-from ledger import GUARD, Ledger, Trial
+from ledger import GUARD, Ledger, Preview, Trial
 from lines import (
     LARGEST_TABLES, REPORT, TOO_LARGE, any_spectrum, changed, few_rows_tables, full_tables,
-    light, near_spectrum, opening, standard, tolerance, trial,
+    light, near_spectrum, opening, preview, standard, tolerance, trial,
 )
 from published import THREE_ROWS, flat
 from replay import READING_BITS, Step, answer, whole_table
@@ -32,7 +32,7 @@ class CallList:
             return
         step = Step(len(self.lines), line, *answer(self.ledger, line))
         self.steps.append(step)
-        if isinstance(step.result, Trial) and not self.holds(step.result, line):
+        if isinstance(step.result, (Trial, Preview)) and not self.holds(step.result, line):
             self.misjudged.append(step)
 
     def holds(self, judged, line):
@@ -88,14 +88,29 @@ class CallList:
         ))
         self.say(tolerance(self.chance.pick(("lab", "luv")), amount))
 
-    def enter_trial(self):
+    def swatch(self):
+        """Often near the standard, and now and then bad."""
         spectrum = any_spectrum(self.chance)
         if self.ledger.standard is not None and not self.chance.one_in(3):
             spectrum = near_spectrum(self.chance, self.ledger.standard)
-        self.say(trial(self.maybe_bad(spectrum)))
+        return self.maybe_bad(spectrum)
+
+    def enter_trial(self):
+        self.say(trial(self.swatch()))
+
+    def look(self):
+        """A few previews, then perhaps the trial itself, and perhaps a report."""
+        spectrum = self.swatch()
+        for _ in range(self.chance.between(1, 3)):
+            self.say(preview(spectrum))
+        if self.chance.one_in(2):
+            self.say(trial(spectrum))
+        if self.chance.one_in(2):
+            self.say(REPORT)
 
     def judge_at_the_guard(self):
-        """A trial near the standard, then tolerances at the edges of its difference."""
+        """A spectrum near the standard, tried and now and then previewed at tolerances at the
+        edges of its difference."""
         held = self.ledger
         if held.conditions is None or held.standard is None:
             return self.enter_standard()
@@ -105,6 +120,8 @@ class CallList:
             E = difference(space, *(colour(s, held.conditions) for s in (held.standard, spectrum)))
             edge = self.chance.pick((-GUARD[space], GUARD[space])) + self.chance.between(-1, 1)
             self.say(tolerance(space, max(E + edge, 0)))
+            if self.chance.one_in(2):
+                self.say(preview(spectrum))
             self.say(trial(spectrum))
 
     def say_report(self):
@@ -127,7 +144,7 @@ class CallList:
 UNREADABLE = unreadable()
 MOVES = (
     [CallList.open_light] * 3 + [CallList.open_tables] * 2 + [CallList.enter_standard] * 5
-    + [CallList.enter_tolerance] * 4 + [CallList.enter_trial] * 10
+    + [CallList.enter_tolerance] * 4 + [CallList.enter_trial] * 10 + [CallList.look] * 5
     + [CallList.judge_at_the_guard] * 10 + [CallList.say_report] * 2
     + [CallList.say_unreadable] + [CallList.damage_a_line]
 )

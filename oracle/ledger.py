@@ -1,4 +1,4 @@
-"""The ledger of document 01: what a list of calls must answer.
+"""The ledger of document 01, with the calls of document 02: what a list of calls must answer.
 
 Every call returns its answer or raises Refused; a refusal leaves the ledger as it was.
 """
@@ -23,6 +23,7 @@ VERDICTS = ("pass", "fail", "line")
 
 Tolerance = namedtuple("Tolerance", "space amount")
 Trial = namedtuple("Trial", "verdict difference colour")
+Preview = namedtuple("Preview", "verdict difference colour")
 
 
 class Refused(Exception):
@@ -97,7 +98,8 @@ class Ledger:
         refuse_when((TOLERANCE_OFF_SCALE, lambda: amount > TOLERANCE_LIMIT))
         self.tolerance = Tolerance(space, amount)
 
-    def trial(self, spectrum):
+    def work_out(self, spectrum):
+        """Verdict, E and colour of a trial, or of a preview of one; nothing is counted."""
         refuse_when(
             (NO_CONDITIONS, lambda: self.conditions is None),
             (NO_STANDARD, lambda: self.standard is None),
@@ -108,9 +110,15 @@ class Ledger:
         space, T = self.tolerance
         own = colour(spectrum, self.conditions)
         E = difference(space, colour(self.standard, self.conditions), own)
-        verdict = judge(space, E, T)
-        self.counts[verdict] += 1
-        return Trial(verdict, E, own)
+        return judge(space, E, T), E, own
+
+    def trial(self, spectrum):
+        done = Trial(*self.work_out(spectrum))
+        self.counts[done.verdict] += 1
+        return done
+
+    def preview(self, spectrum):
+        return Preview(*self.work_out(spectrum))
 
     def report(self):
         return tuple(self.counts[verdict] for verdict in VERDICTS)

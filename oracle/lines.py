@@ -28,6 +28,10 @@ def trial(spectrum):
     return f"trial {counted(spectrum)}".encode()
 
 
+def preview(spectrum):
+    return f"preview {counted(spectrum)}".encode()
+
+
 REPORT = b"report"
 TOO_LARGE = 10**64 + 1  # for every place; cut to its low bits or low digits it would be 1
 

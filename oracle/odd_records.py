@@ -6,8 +6,8 @@ from array import array
 from lines import any_spectrum, changed
 from published import THREE_ROWS
 from records import (
-    ANSWER_WORDS, CALL_WORDS, OPEN_TABLES, READING, STANDARD, TRIAL, WORD, WORD_BYTES, WORD_LIMIT,
-    Recorder, Run, answers_size, any_words, call_count, put,
+    ANSWER_WORDS, CALL_WORDS, OPEN_TABLES, PREVIEW, READING, STANDARD, TRIAL, WORD, WORD_BYTES,
+    WORD_LIMIT, Recorder, Run, answers_size, any_words, call_count, put,
 )
 from tables import LENGTH
 
@@ -28,7 +28,8 @@ def ends(size):
 
 
 def parts_at_the_end(chance):
-    """Standards, trials and each of an opening's tables, as parts at the end of their pool."""
+    """Standards, trials, previews and each of an opening's tables, as parts at the end of their
+    pool."""
     held = Recorder(chance)
     whole = [put(held.tables, table) for table in THREE_ROWS]
     for _ in range(2):
@@ -38,6 +39,7 @@ def parts_at_the_end(chance):
     for words in ends(len(held.spectra)):
         held.write(STANDARD, *words)
         held.write(TRIAL, *words)
+        held.write(PREVIEW, *words)
     for place in range(len(whole)):
         for words in ends(len(held.tables)):
             parts = changed(whole, place, words)

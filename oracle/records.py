@@ -8,11 +8,12 @@ import replay
 from book import SHORT_BUFFER
 from book_calls import REFUSAL
 from colour import Colour
-from ledger import VERDICTS, Ledger, Refused, Trial
+from ledger import VERDICTS, Ledger, Preview, Refused, Trial
 
 CALL_WORDS, ANSWER_WORDS, COLOUR_WORDS = 9, 32, 13
-OPEN_TABLES, OPEN_LIGHT, STANDARD, TOLERANCE_LAB, TOLERANCE_LUV, TRIAL = range(1, 7)
-ACCEPTED, COLOURED, TRIED, COUNTED, REFUSED = range(5)
+OPEN_TABLES, OPEN_LIGHT, STANDARD, TOLERANCE_LAB, TOLERANCE_LUV, TRIAL, PREVIEW = range(1, 8)
+ACCEPTED, COLOURED, TRIED, COUNTED, REFUSED, PREVIEWED = range(6)
+JUDGED = {TRIED: Trial, PREVIEWED: Preview}
 SPACES = ("lab", "luv")
 
 WORD, READING = "I", "H"  # array's letters for 32 and 16 bits
@@ -72,8 +73,11 @@ class Recorder:
     def trial(self, spectrum):
         self.write(TRIAL, *put(self.spectra, spectrum))
 
+    def preview(self, spectrum):
+        self.write(PREVIEW, *put(self.spectra, spectrum))
+
     def report(self):
-        self.write(self.chance.pick((0, TRIAL + 1, WORD_LIMIT - 1)))
+        self.write(self.chance.pick((0, PREVIEW + 1, WORD_LIMIT - 1)))
 
     def run(self, spare=0):
         """The list so far, with a buffer that has room for its answers and some words to spare."""
@@ -99,6 +103,17 @@ def recorded(chance, steps):
     return held.run(chance.pick((0, 1, ANSWER_WORDS, 100))), made
 
 
+def repeated(chance, head, times, tail):
+    """The lines of a script as a run, the last of its head made so many times more."""
+    held = Recorder(chance)
+    for line in head:
+        replay.call(held, line)
+    held.records.extend(list(held.records[-CALL_WORDS:]) * times)
+    for line in tail:
+        replay.call(held, line)
+    return held.run()
+
+
 # What a run gives back and leaves
 
 def part(pool, start, count):
@@ -121,6 +136,8 @@ def call(ledger, run, at):
         return ledger.enter_tolerance("luv", words[0])
     if kind == TRIAL:
         return ledger.trial(part(run.spectra, *words[:2]))
+    if kind == PREVIEW:
+        return ledger.preview(part(run.spectra, *words[:2]))
     return ledger.report()
 
 
@@ -131,13 +148,14 @@ def colour_words(own):
 
 
 def answer_words(result, space):
-    """The answer of what a call returned, or of its refusal; a trial's E is in that space."""
+    """The answer of what a call returned, or of its refusal; E is in that space."""
     if result is None:
         words = [ACCEPTED]
     elif isinstance(result, Refused):
         words = [REFUSED, result.cause]
-    elif isinstance(result, Trial):
-        words = [TRIED, *colour_words(result.colour), SPACES.index(space), result.difference,
+    elif isinstance(result, (Trial, Preview)):
+        kind = TRIED if isinstance(result, Trial) else PREVIEWED
+        words = [kind, *colour_words(result.colour), SPACES.index(space), result.difference,
                  VERDICTS.index(result.verdict)]
     elif isinstance(result, Colour):
         words = [COLOURED, *colour_words(result)]
@@ -176,10 +194,10 @@ def result_of(words):
     kind, *told = words
     if kind == COLOURED:
         return colour_of(told[:COLOUR_WORDS]), None
-    if kind == TRIED:
+    if kind in JUDGED:
         space, E, verdict = told[COLOUR_WORDS:COLOUR_WORDS + 3]
-        judged = VERDICTS[verdict % len(VERDICTS)]
-        return Trial(judged, E, colour_of(told[:COLOUR_WORDS])), SPACES[space % len(SPACES)]
+        judged = JUDGED[kind](VERDICTS[verdict % len(VERDICTS)], E, colour_of(told[:COLOUR_WORDS]))
+        return judged, SPACES[space % len(SPACES)]
     if kind == COUNTED:
         return tuple(told[:len(VERDICTS)]), None
     return (Refused(told[0]) if kind == REFUSED else None), None
@@ -193,6 +211,15 @@ def text(words):
     if isinstance(result, Refused):
         return f"refused {result.cause}"
     return replay.answer_text(result)
+
+
+def texts(left):
+    """All answers of a buffer as text; one that repeats the answer before it is not read again."""
+    said, last = [], None
+    for words in apart(left):
+        said.append(said[-1] if words == last else text(words))
+        last = words
+    return said
 
 
 def apart(left):

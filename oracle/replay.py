@@ -13,11 +13,11 @@ Any other line is unreadable and is no call.
 
 from collections import namedtuple
 
-from ledger import Ledger, Refused, Trial
+from ledger import Ledger, Preview, Refused, Trial
 
 READING_BITS, ENTRY_BITS, LENGTH_BITS = 16, 32, 64
 
-# result is what the ledger returned: None, a Colour, a Trial or the tallies.
+# result is what the ledger returned: None, a Colour, a Trial, a Preview or the tallies.
 Step = namedtuple("Step", "number line answer result")
 
 
@@ -79,6 +79,8 @@ def call(ledger, line):
         return ledger.enter_tolerance(words[0].decode(), one_number(words[1:]))
     if name == b"trial":
         return ledger.trial(whole_table(words, READING_BITS))
+    if name == b"preview":
+        return ledger.preview(whole_table(words, READING_BITS))
     if name == b"report" and not words:
         return ledger.report()
     raise Unreadable
@@ -91,7 +93,7 @@ def numbers(colour):
 def answer_text(result):
     if result is None:
         return "ok"
-    if isinstance(result, Trial):
+    if isinstance(result, (Trial, Preview)):
         return f"{result.verdict} {result.difference} {numbers(result.colour)}"
     if len(result) == 3:
         return f"tallies {numbers(result)}"

@@ -4,7 +4,7 @@ from colour import colour, difference
 from ledger import GUARD, built_in, from_tables
 from lines import (
     LARGEST_TABLES, MILLIONTHS_TABLES, REPORT, TOO_LARGE, any_spectrum, changed, counted,
-    few_rows_tables, full_tables, light, millionths_spectrum, near_spectrum, opening,
+    few_rows_tables, full_tables, light, millionths_spectrum, near_spectrum, opening, preview,
     smooth_spectrum, standard, tolerance, trial,
 )
 from published import (
@@ -22,20 +22,26 @@ def guard_amounts(space, E):
     return sorted(amount for amount in around if 0 <= amount <= 1_000_000)
 
 
+def seen_first(*spectra):
+    """Each spectrum previewed and then tried."""
+    return [line for spectrum in spectra for line in (preview(spectrum), trial(spectrum))]
+
+
 def guard_lines(under, one, other):
-    """A trial at each of those tolerances, in both spaces."""
+    """A preview and a trial at each of those tolerances, in both spaces."""
     said = []
     for space in ("lab", "luv"):
         E = difference(space, colour(one, under), colour(other, under))
         for amount in guard_amounts(space, E):
-            said += [tolerance(space, amount), trial(other)]
+            said += [tolerance(space, amount), *seen_first(other)]
     return said
 
 
 def nothing_opened():
     return [
-        REPORT, b"", standard(flat(1_250)), standard(SHORT_AND_BRIGHT), trial(flat(1_250)),
-        trial(SHORT_AND_BRIGHT), tolerance("lab", 1_000_001), tolerance("luv", TOO_LARGE),
+        REPORT, b"", standard(flat(1_250)), standard(SHORT_AND_BRIGHT),
+        *seen_first(flat(1_250), SHORT_AND_BRIGHT), tolerance("lab", 1_000_001),
+        tolerance("luv", TOO_LARGE),
         *(light(number) for number in (0, 3, 2**32 - 1, 2**32, 2**32 + 1, 2**64 + 1, TOO_LARGE)),
         REPORT,
     ]
@@ -87,21 +93,33 @@ def edge_tables(chance):
 
 
 def order_of_checks():
-    """Each cause of the trial in its order, the later ones failing too."""
+    """Each cause of the trial and of its preview in their order, the later ones failing too."""
     return [
-        trial(SHORT_AND_BRIGHT), light(1), trial(SHORT_AND_BRIGHT), standard(SHORT_AND_BRIGHT),
-        standard(flat(20_001)), trial(SHORT_AND_BRIGHT),
+        *seen_first(SHORT_AND_BRIGHT), light(1), *seen_first(SHORT_AND_BRIGHT),
+        standard(SHORT_AND_BRIGHT), standard(flat(20_001)), *seen_first(SHORT_AND_BRIGHT),
         standard(changed(flat(20_000), 80, 20_001)),
         standard(changed(flat(0), 0, 65_535)), standard(changed(flat(0), 0, 65_536)),
         standard(changed(flat(0), 40, TOO_LARGE)), standard([]), standard(flat(0) * 3),
-        standard(flat(20_000)), trial(SHORT_AND_BRIGHT), trial(flat(20_000)), REPORT,
-        tolerance("luv", 1_000_001), trial(flat(20_000)), tolerance("luv", 1_000_000),
-        trial(SHORT_AND_BRIGHT), trial(flat(20_001)), trial([]), trial(flat(1)[1:]),
-        trial(flat(1) + [1]), trial(changed(flat(1), 80, 20_001)), trial(flat(20_000)),
-        tolerance("lab", 1_000_001), tolerance("lab", TOO_LARGE), trial(flat(20_000)),
-        light(3), trial(flat(20_000)), opening(changed(THREE_ROWS, 2, flat(0))),
-        trial(flat(20_000)), light(2), trial(flat(20_000)), trial(SHORT_AND_BRIGHT), REPORT,
+        standard(flat(20_000)), *seen_first(SHORT_AND_BRIGHT, flat(20_000)), REPORT,
+        tolerance("luv", 1_000_001), *seen_first(flat(20_000)), tolerance("luv", 1_000_000),
+        *seen_first(SHORT_AND_BRIGHT, flat(20_001), [], flat(1)[1:], flat(1) + [1]),
+        *seen_first(changed(flat(1), 80, 20_001), flat(20_000)),
+        tolerance("lab", 1_000_001), tolerance("lab", TOO_LARGE), *seen_first(flat(20_000)),
+        light(3), *seen_first(flat(20_000)), opening(changed(THREE_ROWS, 2, flat(0))),
+        *seen_first(flat(20_000)), light(2), *seen_first(flat(20_000), SHORT_AND_BRIGHT), REPORT,
     ]
+
+
+def previews_between_trials():
+    """However many previews stand between trials, a report counts the trials alone, and a preview
+    is judged against the standard, not against the trial before it."""
+    one, near, far = flat(5_000), flat(5_005), flat(9_000)
+    said = [light(1), standard(one), tolerance("lab", 2_000)]
+    for spectrum in (near, far, one):
+        said += [preview(near), preview(far), preview(one), REPORT]
+        said += [trial(spectrum), REPORT, preview(near), preview(far), preview(one), REPORT]
+    said += [standard(far), *seen_first(one, far), tolerance("luv", 0), *seen_first(far), REPORT]
+    return said + [light(2), preview(far), REPORT]
 
 
 def marked_examples():
@@ -141,7 +159,7 @@ def lots(chance):
         under = built_in(number)
         one = smooth_spectrum(chance, 500, 9_500)
         other = near_spectrum(chance, one)
-        said += [light(number), trial(other), standard(one)]
+        said += [light(number), *seen_first(other), standard(one)]
         said += [*guard_lines(under, one, other), REPORT]
     black, bright = flat(0), flat(20_000)
     for one, other in ((black, black), (black, bright), (bright, black), (black, flat(1))):
@@ -179,6 +197,10 @@ def unreadable():
         f"standard {zeros[:-1]}x".encode(), f"standard {zeros[:-2]}  0".encode(),
         f"trial {one_short}".encode(), f"trial {zeros} 0".encode(), f"trial {zeros} ".encode(),
         f"trial{zeros}".encode(), f"trials {zeros}".encode(), b"trial", b"trial 0 0",
+        b"preview", b"preview ", b"preview 0 ", b"preview  0", b"preview 0 0", b"preview x",
+        b"preview 1", b"preview 1 -5", b"Preview 0", b"previews 0", b"previe 0", b" preview 0",
+        b"preview trial 0", f"preview {one_short}".encode(), f"preview {zeros} 0".encode(),
+        f"preview{zeros}".encode(), f"preview {zeros}\r".encode(),
         b"open", b"open ", b"open 0", b"open 0 0 0", b"open 0 0 0 ", b"open 0 0 0 0 0",
         b"open 0 0 0 0 ", f"open {zeros}".encode(), f"open {zeros} {zeros} {zeros}".encode(),
         f"open {zeros} {zeros} {zeros} {one_short}".encode(),
@@ -188,6 +210,7 @@ def unreadable():
         bytes(byte for byte in range(256) if byte != 10), b"\xef\xbb\xbfreport", b"#",
         # and these are calls
         b"open 0 0 0 0", b"open 00 0 000 0", b"standard 0", b"trial 000", b"trial 1 7",
+        b"preview 000", b"preview 1 7", f"preview {zeros}".encode(),
         f"standard 00081 {zeros[3:]}".encode(), f"trial {zeros}{'0' * 40}".encode(),
         b"tolerance lab 000000000000000000000000000007", f"trial {zeros}".encode(), REPORT, b"",
     ]
@@ -198,7 +221,8 @@ def script(chance):
     said = [
         *nothing_opened(), *wrong_tables(), standard(flat(1)), *order_of_checks(),
         light(1), standard(flat(1_250)), *wrong_tables(), trial(flat(1_250)),
-        *edge_tables(chance), *marked_examples(), *whites(), *printed_tables(), *lots(chance),
+        *previews_between_trials(), *edge_tables(chance), *marked_examples(), *whites(),
+        *printed_tables(), *lots(chance),
         *unreadable(), REPORT,
     ]
     return b"\n".join(said)

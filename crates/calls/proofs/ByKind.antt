@@ -5,9 +5,10 @@ use Prim.Native.Nat.{ℕ}
 use borrow.Author.Tests.{ne-eqb}
 use Rattle.cie.specs.declared.Space.the-variants.{Cielab, Cieluv}
 use Rattle.cie.specs.Sums.{tablesOf}
+use Rattle.looks.specs.Look.{preview}
 use Rattle.session.specs.declared.Session.{Session}
 use Rattle.session.specs.declared.Served.{Served}
-use Rattle.session.specs.Call.{Call, open-tables, open-light, set-standard, set-tolerance, trial, report}
+use Rattle.session.specs.Call.{Call, open-tables, open-light, set-standard, set-tolerance, trial, report, look}
 use Rattle.session.specs.Meets.{Meets}
 use Rattle.calls.specs.Records.{wordAt, partAt, tablesAt, callOfKind, callOf}
 
@@ -57,10 +58,15 @@ module _ {s : Session} {r : Served} where
     unfolding callOfKind
     by-trial e p m = of-kind 6 e (ap trial p) m
 
-    pub by-report : (kind ≡ 1 → ⊥) → (kind ≡ 2 → ⊥) → (kind ≡ 3 → ⊥) → (kind ≡ 4 → ⊥) → (kind ≡ 5 → ⊥) → (kind ≡ 6 → ⊥)
+    pub by-preview : {readings : List ℕ} → kind ≡ 7 → readings ≡ partAt spectra words 1 → Meets s (look (preview readings)) r
+        → Meets s (callOf words tables spectra) r
+    unfolding callOfKind
+    by-preview e p m = of-kind 7 e (ap (λ (readings : List ℕ). look (preview readings)) p) m
+
+    pub by-report : (kind ≡ 1 → ⊥) → (kind ≡ 2 → ⊥) → (kind ≡ 3 → ⊥) → (kind ≡ 4 → ⊥) → (kind ≡ 5 → ⊥) → (kind ≡ 6 → ⊥) → (kind ≡ 7 → ⊥)
         → Meets s report r → Meets s (callOf words tables spectra) r
     unfolding callOfKind
-    by-report n₁ n₂ n₃ n₄ n₅ n₆ m =
+    by-report n₁ n₂ n₃ n₄ n₅ n₆ n₇ m =
         of-kind kind refl
-        (simp (ne-eqb kind 1 n₁, ne-eqb kind 2 n₂, ne-eqb kind 3 n₃, ne-eqb kind 4 n₄, ne-eqb kind 5 n₅, ne-eqb kind 6 n₆))
+        (simp (ne-eqb kind 1 n₁, ne-eqb kind 2 n₂, ne-eqb kind 3 n₃, ne-eqb kind 4 n₄, ne-eqb kind 5 n₅, ne-eqb kind 6 n₆, ne-eqb kind 7 n₇))
         m

@@ -5,19 +5,22 @@ use Prim.Native.Nat.{ℕ}
 use native.Mathlib.Omega.{arith}
 use lib.ListN.{length, replicate, length-append, length-replicate}
 use lib.Seq.{length-take-le}
-use Rattle.causes.specs.declared.Cause.{Cause}
-use Rattle.causes.specs.Causes.{causeNumber}
 use Rattle.cie.specs.declared.Chromaticity.{Chromaticity}
 use Rattle.cie.specs.declared.Chromaticity.the-variants.{None, At}
 use Rattle.cie.specs.declared.Colour.{Colour}
-use Rattle.session.specs.declared.Answer.{Answer}
-use Rattle.session.specs.declared.Answer.the-variants.{Accepted, Coloured, Tried, Counted, Refused}
-use Rattle.session.specs.declared.TrialAnswer.{TrialAnswer}
-use Rattle.session.specs.declared.ReportAnswer.{ReportAnswer}
-use Rattle.session.specs.Outcome.{Outcome, accepted, coloured, tried, counted, refused}
-use Rattle.session.specs.Served.{amountOf, outcomeOf}
 use Rattle.endian.specs.Bytes.{twos}
-use Rattle.calls.specs.Records.{answerWords, chromaticityWords, colourWords, spaceWord, verdictWord, padded, answerRecord}
+use Rattle.trials.specs.declared.TrialAnswer.{TrialAnswer}
+use Rattle.trials.specs.Tried.{amountOf, trialOutcome}
+use Rattle.looks.specs.declared.Seen.{Seen}
+use Rattle.looks.specs.declared.Seen.the-variants.{Previewed}
+use Rattle.looks.specs.Look.{previewed}
+use Rattle.looks.specs.Looked.{seenAnswer}
+use Rattle.session.specs.declared.Answer.{Answer}
+use Rattle.session.specs.declared.Answer.the-variants.{Accepted, Coloured, Tried, Counted}
+use Rattle.session.specs.declared.ReportAnswer.{ReportAnswer}
+use Rattle.session.specs.Outcome.{Outcome, accepted, coloured, tried, counted, seen, refused, looked}
+use Rattle.session.specs.Served.{outcomeOf}
+use Rattle.calls.specs.Records.{answerWords, chromaticityWords, colourWords, spaceWord, verdictWord, trialWords, padded, answerRecord}
 
 -- how long an answer is
 length-padded : (words : List ℕ) → length (padded words) ≡ answerWords
@@ -29,9 +32,9 @@ pub length-answer : (o : Outcome) → length (answerRecord o) ≡ answerWords
 unfolding answerRecord
 length-answer accepted = refl
 length-answer (coloured colour) = length-padded (1 ∷ colourWords colour)
-length-answer (tried t) =
-    length-padded (2 ∷ (colourWords (t .colour) ++ (spaceWord (t .e .space) ∷ t .e .units ∷ verdictWord (t .verdict) ∷ [])))
+length-answer (tried t) = length-padded (2 ∷ trialWords t)
 length-answer (counted r) = refl
+length-answer (seen (previewed t)) = length-padded (5 ∷ trialWords t)
 length-answer (refused cause) = refl
 
 -- the words of a colour around those of its chromaticity, and three words more
@@ -58,6 +61,16 @@ colour-alone c = go (c .chromaticity)
     go None = refl
     go (At x y) = refl
 
+-- the words of E and the verdict, after those of the colour
+pub trial-laid : (kind : ℕ) (t : TrialAnswer) {a b v : ℕ} {r : List ℕ}
+    → a ≡ spaceWord (amountOf (t .difference) .space) → b ≡ amountOf (t .difference) .units → v ≡ verdictWord (t .verdict)
+    → r ≡ padded (kind ∷ (colourWords (t .colour) ++ (a ∷ b ∷ v ∷ []))) → r ≡ padded (kind ∷ trialWords (trialOutcome t))
+trial-laid kind t p u k q = q ∙ λ i. padded (kind ∷ (colourWords (t .colour) ++ (p i ∷ u i ∷ k i ∷ [])))
+
+pub refused-laid : {n cause : ℕ} {r : List ℕ} → n ≡ cause → r ≡ padded (4 ∷ n ∷ 0 ∷ 0 ∷ []) → r ≡ answerRecord (refused cause)
+unfolding answerRecord
+refused-laid k q = q ∙ ap (λ (n : ℕ). padded (4 ∷ n ∷ [])) k
+
 -- the words that the code makes of each answer
 module _ {answer : Answer} {r : List ℕ} where
   pub laid-accepted : answer ≡ Accepted → r ≡ padded (0 ∷ 0 ∷ 0 ∷ 0 ∷ []) → r ≡ answerRecord (outcomeOf answer)
@@ -69,18 +82,17 @@ module _ {answer : Answer} {r : List ℕ} where
   unfolding answerRecord
   laid-coloured {colour} e q = rw e (q ∙ colour-alone colour)
 
-  pub laid-tried : {t : TrialAnswer} {a b v : ℕ} → answer ≡ Tried t
-      → a ≡ spaceWord (amountOf (t .difference) .space) → b ≡ amountOf (t .difference) .units → v ≡ verdictWord (t .verdict)
-      → r ≡ padded (2 ∷ (colourWords (t .colour) ++ (a ∷ b ∷ v ∷ []))) → r ≡ answerRecord (outcomeOf answer)
+  pub laid-tried : {t : TrialAnswer} → answer ≡ Tried t → r ≡ padded (2 ∷ trialWords (trialOutcome t)) → r ≡ answerRecord (outcomeOf answer)
   unfolding answerRecord
-  laid-tried {t} told p u k q = rw told (q ∙ λ i. padded (2 ∷ (colourWords (t .colour) ++ (p i ∷ u i ∷ k i ∷ []))))
+  laid-tried e q = rw e q
 
   pub laid-counted : {t : ReportAnswer} → answer ≡ Counted t → r ≡ padded (3 ∷ t .tallies .passed ∷ t .tallies .failed ∷ t .tallies .line ∷ [])
       → r ≡ answerRecord (outcomeOf answer)
   unfolding answerRecord
   laid-counted e q = rw e q
 
-  pub laid-refused : {cause : Cause} {n : ℕ} → answer ≡ Refused cause → n ≡ causeNumber cause → r ≡ padded (4 ∷ n ∷ 0 ∷ 0 ∷ [])
-      → r ≡ answerRecord (outcomeOf answer)
-  unfolding answerRecord
-  laid-refused e k q = rw e (q ∙ ap (λ (n : ℕ). padded (4 ∷ n ∷ [])) k)
+-- and of what a look shows
+pub laid-previewed : {seen : Seen} {r : List ℕ} {t : TrialAnswer} → seen ≡ Previewed t → r ≡ padded (5 ∷ trialWords (trialOutcome t))
+    → r ≡ answerRecord (looked (seenAnswer seen))
+unfolding answerRecord
+laid-previewed e q = rw e q

@@ -7,6 +7,7 @@
 --   4  tolerance in CIELAB: the amount (word 1)
 --   5  tolerance in CIELUV: the amount (word 1)
 --   6  trial: its readings, as a part of the pool of spectra (words 1 2)
+--   7  preview: its readings, as a part of the pool of spectra (words 1 2)
 --   any other number: report
 -- Words that a call does not name may hold anything. A part that runs past the end of its pool is a table of length 0. A record that ends early
 -- counts as one that goes on with zeros.
@@ -17,6 +18,7 @@
 --   2  a trial: its colour (1 to 13), the space of E (14: 0 is CIELAB, 1 is CIELUV), E (15), the verdict (16: 0 is pass, 1 is fail, 2 is on the line)
 --   3  tallies: pass, fail, on the line (1 to 3)
 --   4  refused: the cause (1)
+--   5  a preview: what a trial would answer, laid out as that is (1 to 16)
 -- A colour is X, Y, Z, whether it has a chromaticity (1 or 0), x, y (0 where it has none), L, a, b, u, v, CIELAB chroma, CIELUV chroma; a, b, u
 -- and v are signed, in two's complement. Words that an answer does not name are 0.
 use mathlib.Core.Path.{_≡_}
@@ -34,8 +36,10 @@ use Rattle.cie.specs.declared.Space.the-variants.{Cielab, Cieluv}
 use Rattle.cie.specs.declared.Verdict.{Verdict}
 use Rattle.cie.specs.declared.Verdict.the-variants.{Pass, Fail, OnTheLine}
 use Rattle.cie.specs.Sums.{Tables, tablesOf}
-use Rattle.session.specs.Call.{Call, open-tables, open-light, set-standard, set-tolerance, trial, report}
-use Rattle.session.specs.Outcome.{Outcome, accepted, coloured, tried, counted, refused}
+use Rattle.trials.specs.Outcome.{TrialOutcome}
+use Rattle.looks.specs.Look.{preview, previewed}
+use Rattle.session.specs.Call.{Call, open-tables, open-light, set-standard, set-tolerance, trial, report, look}
+use Rattle.session.specs.Outcome.{Outcome, accepted, coloured, tried, counted, seen, refused}
 
 abbrev pub callWords : ℕ
 callWords = 9
@@ -74,7 +78,8 @@ callOfKind kind words tables spectra =
     (cond (eqb kind 4) (set-tolerance Cielab (wordAt words 1))
     (cond (eqb kind 5) (set-tolerance Cieluv (wordAt words 1))
     (cond (eqb kind 6) (trial (partAt spectra words 1))
-    report)))))
+    (cond (eqb kind 7) (look (preview (partAt spectra words 1)))
+    report))))))
 
 -- the call of a record
 abbrev pub callOf : List ℕ → List ℕ → List ℕ → Call
@@ -116,11 +121,15 @@ verdictWord OnTheLine = 2
 abbrev pub padded : List ℕ → List ℕ
 padded words = take answerWords (words ++ replicate answerWords 0)
 
+abbrev pub trialWords : TrialOutcome → List ℕ
+trialWords t = colourWords (t .colour) ++ (spaceWord (t .e .space) ∷ t .e .units ∷ verdictWord (t .verdict) ∷ [])
+
 unfoldable pub answerRecord : Outcome → List ℕ
 answerRecord accepted = padded (0 ∷ [])
 answerRecord (coloured colour) = padded (1 ∷ colourWords colour)
-answerRecord (tried t) = padded (2 ∷ (colourWords (t .colour) ++ (spaceWord (t .e .space) ∷ t .e .units ∷ verdictWord (t .verdict) ∷ [])))
+answerRecord (tried t) = padded (2 ∷ trialWords t)
 answerRecord (counted r) = padded (3 ∷ r .counts .passed ∷ r .counts .failed ∷ r .counts .line ∷ [])
+answerRecord (seen (previewed t)) = padded (5 ∷ trialWords t)
 answerRecord (refused cause) = padded (4 ∷ cause ∷ [])
 
 -- the answers of some outcomes, one after the other

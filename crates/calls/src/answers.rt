@@ -4,13 +4,20 @@ ghost use Prim.Native.Nat.{_≤_};
 ghost use mathlib.Core.List.{[], _∷_, _++_};
 ghost use lib.ListN.{length};
 ghost use lib.Seq.{sets};
-ghost use Rattle.session.specs.Served.{amountOf, outcomeOf};
-ghost use Rattle.calls.specs.Records.{answerWords, chromaticityWords, spaceWord, verdictWord, colourWords, padded, answerRecord};
+ghost use Rattle.causes.specs.Causes.{causeNumber};
+ghost use Rattle.trials.specs.Tried.{amountOf, trialOutcome};
+ghost use Rattle.looks.specs.Looked.{seenAnswer};
+ghost use Rattle.session.specs.Outcome.{refused, looked};
+ghost use Rattle.session.specs.Served.{outcomeOf};
+ghost use Rattle.calls.specs.Records.{answerWords, chromaticityWords, spaceWord, verdictWord, colourWords, trialWords, padded, answerRecord};
+use causes::Cause;
 use cie::Chromaticity;
 use cie::Colour;
 use cie::Verdict;
+use looks::Seen;
 use rules::Difference;
 use session::Answer;
+use trials::TrialAnswer;
 
 pub const ANSWER_WORDS: usize = 32;
 
@@ -75,6 +82,16 @@ fn colour_words(kind: u32, c: Colour, amount: Amount, verdict: u32) -> [u32; 32]
     words
 }
 
+// The words of a trial's answer, or of a preview's, by its kind.
+fn trial_words(kind: u32, t: TrialAnswer) -> [u32; 32]
+    ensures { λ r. ⌜ r ≡ padded (kind ∷ trialWords (trialOutcome t)) ⌝ }
+{
+    let colour = t.colour;
+    let e = t.difference;
+    let verdict = t.verdict;
+    colour_words(kind, colour, amount_of(e), verdict_word(verdict))
+}
+
 // The words of an answer that has at most three numbers.
 fn short_words(kind: u32, a: u32, b: u32, c: u32) -> [u32; 32]
     ensures { λ r. ⌜ r ≡ padded (kind ∷ a ∷ b ∷ c ∷ []) ⌝ }
@@ -87,23 +104,34 @@ fn short_words(kind: u32, a: u32, b: u32, c: u32) -> [u32; 32]
     words
 }
 
+fn refused_words(cause: Cause) -> [u32; 32]
+    ensures { λ r. ⌜ r ≡ answerRecord (refused (causeNumber cause)) ⌝ }
+{
+    short_words(4, causes::number(cause), 0, 0)
+}
+
+fn seen_words(seen: Seen) -> [u32; 32]
+    ensures { λ r. ⌜ r ≡ answerRecord (looked (seenAnswer seen)) ⌝ }
+{
+    match seen {
+        Seen::Previewed(t) => trial_words(5, t),
+        Seen::Refused(cause) => refused_words(cause),
+    }
+}
+
 fn words_of(answer: Answer) -> [u32; 32]
     ensures { λ r. ⌜ r ≡ answerRecord (outcomeOf answer) ⌝ }
 {
     match answer {
         Answer::Accepted => short_words(0, 0, 0, 0),
         Answer::Coloured(colour) => colour_words(1, colour, Amount(0, 0), 0),
-        Answer::Tried(t) => {
-            let colour = t.colour;
-            let e = t.difference;
-            let verdict = t.verdict;
-            colour_words(2, colour, amount_of(e), verdict_word(verdict))
-        }
+        Answer::Tried(t) => trial_words(2, t),
         Answer::Counted(r) => {
             let tallies = r.tallies;
             short_words(3, tallies.passed, tallies.failed, tallies.line)
         }
-        Answer::Refused(cause) => short_words(4, causes::number(cause), 0, 0),
+        Answer::Seen(seen) => seen_words(seen),
+        Answer::Refused(cause) => refused_words(cause),
     }
 }
 

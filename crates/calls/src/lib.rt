@@ -38,6 +38,8 @@ pub const TOLERANCE_LUV: u32 = 5;
 
 pub const TRIAL: u32 = 6;
 
+pub const PREVIEW: u32 = 7;
+
 // A word of a record, or 0 where the record ends before it.
 fn word(words: &[u32], i: usize) -> u32
     ensures { λ r. ⌜ r ≡ wordAt (now (words .entry)) i ⌝ }
@@ -115,6 +117,7 @@ pub fn call(s: Session, words: &[u32], tables: &[u32], spectra: &[u16]) -> Serve
         TOLERANCE_LAB => s.set_tolerance(Space::Cielab, word(words, 1)),
         TOLERANCE_LUV => s.set_tolerance(Space::Cieluv, word(words, 1)),
         TRIAL => s.trial(spectrum(spectra, words)),
+        PREVIEW => s.preview(spectrum(spectra, words)),
         _ => s.report(),
     }
 }

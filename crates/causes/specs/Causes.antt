@@ -25,3 +25,12 @@ causeNumber NoSuchLight = 16
 pub data Numbered (A : Type 0) : Type 0 where
   accepted : A → Numbered A
   refused : ℕ → Numbered A
+
+-- a refusal by its cause
+abbrev pub refusal : {A : Type 0} → Cause → Numbered A
+refusal cause = refused (causeNumber cause)
+
+-- the same answer, with another form of what is accepted
+abbrev pub mapped : {A B : Type 0} → (A → B) → Numbered A → Numbered B
+mapped f (accepted a) = accepted (f a)
+mapped f (refused cause) = refused cause

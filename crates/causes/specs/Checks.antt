@@ -5,7 +5,7 @@ use mathlib.Core.List.{List, [], _∷_}
 use Rattle.causes.specs.declared.Cause.{Cause}
 use Rattle.causes.specs.declared.Checked.{Checked}
 use Rattle.causes.specs.declared.Checked.the-variants.{Clear, Because}
-use Rattle.causes.specs.Causes.{causeNumber, Numbered, accepted, refused}
+use Rattle.causes.specs.Causes.{Numbered, accepted, refusal}
 
 -- a condition, and the cause that it gives
 pub record Check : Type 0 where
@@ -27,4 +27,4 @@ unless (Because c) refuse answer = refuse c
 
 -- the same in the paper's numbers
 abbrev pub numbered : {A : Type 0} → Checked → A → Numbered A
-numbered found answer = unless found (λ c. refused (causeNumber c)) (accepted answer)
+numbered found answer = unless found refusal (accepted answer)

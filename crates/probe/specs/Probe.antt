@@ -6,7 +6,7 @@ use Rattle.causes.specs.Causes.{Numbered}
 use Rattle.cie.specs.declared.Space.the-variants.{Cielab}
 use Rattle.session.specs.declared.Session.{Session}
 use Rattle.session.specs.Call.{Call, open-light, set-standard, set-tolerance, trial, report}
-use Rattle.session.specs.Outcome.{Outcome, accepted, coloured, tried, counted, refused}
+use Rattle.session.specs.Outcome.{Outcome, accepted, coloured, tried, counted, seen, refused}
 use Rattle.session.specs.Served.{served, freshSession}
 
 -- the count, or 2^32 and the cause's number
@@ -38,6 +38,7 @@ passedIn accepted = 0
 passedIn (coloured colour) = 0
 passedIn (tried t) = 0
 passedIn (counted r) = r .counts .passed
+passedIn (seen sight) = 0
 passedIn (refused cause) = 0
 
 -- the passes among a number of trials of one spectrum, as the report after them counts

@@ -92,6 +92,7 @@ fn passed_in(answer: Answer) -> u32
         Answer::Coloured(_) => 0,
         Answer::Tried(_) => 0,
         Answer::Counted(r) => r.tallies.passed,
+        Answer::Seen(_) => 0,
         Answer::Refused(_) => 0,
     }
 }

@@ -74,6 +74,9 @@ impl Line {
         if token.is(b"trial") {
             return Line::started(calls::TRIAL, Stage::Length, 1);
         }
+        if token.is(b"preview") {
+            return Line::started(calls::PREVIEW, Stage::Length, 1);
+        }
         if token.is(b"standard") {
             return Line::started(calls::STANDARD, Stage::Length, 1);
         }

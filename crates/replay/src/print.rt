@@ -2,13 +2,15 @@
 ghost use Prim.Native.Nat.{_+_, _≤_};
 ghost use lib.ListN.{length};
 ghost use Rattle.io.specs.Counts.{Counts};
+use causes::Cause;
 use cie::Chromaticity;
 use cie::Colour;
 use cie::Verdict;
 use libc::STDOUT_FILENO;
+use looks::Seen;
 use rules::Difference;
 use session::Answer;
-use session::TrialAnswer;
+use trials::TrialAnswer;
 
 // A space and a number.
 fn put_field(out: &mut [u8], at: usize, n: u32) -> usize
@@ -106,6 +108,25 @@ fn put_tried(out: &mut [u8], t: TrialAnswer) -> usize
     put_colour(out, second, colour)
 }
 
+fn put_refused(out: &mut [u8], cause: Cause) -> usize
+    requires { ⌜ 18 ≤ length (now out) ⌝ }
+    ensures { λ r. ⌜ r ≤ 18 ⌝ }
+{
+    let after = text::put(out, 0, b"refused");
+    put_field(out, after, causes::number(cause))
+}
+
+// A look's answer without its line end: a preview's is as a trial's.
+fn put_seen(out: &mut [u8], seen: Seen) -> usize
+    requires { ⌜ 151 ≤ length (now out) ⌝ }
+    ensures { λ r. ⌜ r ≤ 151 ⌝ }
+{
+    match seen {
+        Seen::Previewed(t) => put_tried(out, t),
+        Seen::Refused(cause) => put_refused(out, cause),
+    }
+}
+
 // The answer without its line end.
 fn put_answer(out: &mut [u8], answer: Answer) -> usize
     requires { ⌜ 151 ≤ length (now out) ⌝ }
@@ -123,10 +144,8 @@ fn put_answer(out: &mut [u8], answer: Answer) -> usize
             let after = text::put(out, 0, b"tallies");
             put_three(out, after, t.passed, t.failed, t.line)
         }
-        Answer::Refused(cause) => {
-            let after = text::put(out, 0, b"refused");
-            put_field(out, after, causes::number(cause))
-        }
+        Answer::Seen(seen) => put_seen(out, seen),
+        Answer::Refused(cause) => put_refused(out, cause),
     }
 }
 

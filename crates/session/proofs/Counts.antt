@@ -4,16 +4,16 @@ use mathlib.Core.Path.{_≡_, refl, _∙_, ap}
 use mathlib.Core.Bool.{Bool, false}
 use mathlib.Core.List.{List, _∷_}
 use Prim.Native.Nat.{ℕ}
+use Rattle.causes.specs.Causes.{Numbered, accepted, refused}
 use Rattle.causes.proofs.Checks.{either}
 use Rattle.cie.specs.declared.Colour.{Colour}
 use Rattle.cie.specs.declared.Verdict.{Verdict}
 use Rattle.cie.specs.declared.Verdict.the-variants.{Pass, Fail, OnTheLine}
 use Rattle.cie.specs.Sums.{Tables}
-use Rattle.cie.specs.Colour.{colourAt}
-use Rattle.cie.specs.Verdict.{margin, verdictOf, difference}
-use Rattle.session.specs.Call.{Call, open-tables, open-light, set-standard, set-tolerance, trial, report}
-use Rattle.session.specs.Outcome.{Amount, VerdictCounts, Outcome, tried}
-use Rattle.session.specs.Ledger.{Held, none, held, Ledger, Entry, standardAt, countedIn, judgedAt, trialAt, entered}
+use Rattle.trials.specs.Outcome.{Amount, TrialOutcome}
+use Rattle.session.specs.Call.{Call, open-tables, open-light, set-standard, set-tolerance, trial, report, look}
+use Rattle.session.specs.Outcome.{VerdictCounts, Outcome, tried}
+use Rattle.session.specs.Ledger.{Held, none, held, Ledger, Entry, standardAt, countedIn, triedAt, countedAt, entered}
 use Rattle.session.specs.Claim.{Event, event, isPass, isFail, isLine, given, timesGiven, verdictsIn}
 
 -- after a call the entry's ledger counts the call with those before it
@@ -36,7 +36,7 @@ one-more before readings colour e Fail = refl
 one-more before readings colour e OnTheLine = refl
 
 module _ (before : List Event) (l : Ledger) (k : l .counts ≡ verdictsIn before) where
-  -- a call that is given no verdict: one that is no trial, or a refused one
+  -- a call that is given no verdict to count: one that is no trial, or a refused one
   kept : (c : Call) (o : Outcome) → ((p : Verdict → Bool) → given p c o ≡ false) → l .counts ≡ verdictsIn (event c o ∷ before)
   kept c o h = k ∙ uncounted before c o h
 
@@ -44,17 +44,9 @@ module _ (before : List Event) (l : Ledger) (k : l .counts ≡ verdictsIn before
   at-standard none readings = kept _ _ (λ p. refl)
   at-standard (held t) readings = kept _ _ (λ p. refl)
 
-  at-verdict : (a : Amount) (p q : Colour) (readings : List ℕ) → CountsAfter before (trial readings) (judgedAt l a p q)
-  at-verdict a p q readings =
-      let d : ℕ = difference (a .space) p q in
-      let verdict : Verdict = verdictOf (margin (a .space)) d (a .units) in
-      ap (λ (n : VerdictCounts). countedIn n verdict) k ∙ one-more before readings q (record { space = a .space; units = d }) verdict
-
-  at-trial : (t : Held Tables) (s : Held (List ℕ)) (o : Held Amount) (readings : List ℕ) → CountsAfter before (trial readings) (trialAt l t s o readings)
-  at-trial none s o readings = kept _ _ (λ p. refl)
-  at-trial (held t) none o readings = kept _ _ (λ p. refl)
-  at-trial (held t) (held s) none readings = kept _ _ (λ p. refl)
-  at-trial (held t) (held s) (held a) readings = at-verdict a (colourAt t s) (colourAt t readings) readings
+  at-trial : (readings : List ℕ) (a : Numbered TrialOutcome) → CountsAfter before (trial readings) (countedAt l a)
+  at-trial readings (accepted t) = ap (λ (n : VerdictCounts). countedIn n (t .verdict)) k ∙ one-more before readings (t .colour) (t .e) (t .verdict)
+  at-trial readings (refused cause) = kept _ _ (λ p. refl)
 
   pub counts-next : (c : Call) → CountsAfter before c (entered l c)
   counts-next (open-tables t) = either _ (CountsAfter before (open-tables t)) _ _ (λ c. kept _ _ (λ p. refl)) (λ e. kept _ _ (λ p. refl))
@@ -63,6 +55,6 @@ module _ (before : List Event) (l : Ledger) (k : l .counts ≡ verdictsIn before
       either _ (CountsAfter before (set-standard readings)) _ _ (λ c. kept _ _ (λ p. refl)) (λ e. at-standard (l .conditions) readings)
   counts-next (set-tolerance space amount) =
       either _ (CountsAfter before (set-tolerance space amount)) _ _ (λ c. kept _ _ (λ p. refl)) (λ e. kept _ _ (λ p. refl))
-  counts-next (trial readings) =
-      either _ (CountsAfter before (trial readings)) _ _ (λ c. kept _ _ (λ p. refl)) (λ e. at-trial (l .conditions) (l .standard) (l .tolerance) readings)
+  counts-next (trial readings) = at-trial readings (triedAt l readings)
   counts-next report = kept _ _ (λ p. refl)
+  counts-next (look i) = kept _ _ (λ p. refl)

@@ -4,16 +4,17 @@ use mathlib.Core.Path.{_≡_}
 use mathlib.Core.List.{List}
 use Prim.Native.Nat.{ℕ}
 use Rattle.causes.specs.declared.Checked.the-variants.{Clear}
+use Rattle.causes.specs.Causes.{Numbered, accepted, refused}
 use Rattle.causes.specs.Checks.{firstOf}
 use Rattle.causes.proofs.Checks.{clear-head, clear-tail, either}
 use Rattle.cie.specs.Sums.{Tables, sumsOf, whiteOf, White, AtMostTwice}
 use Rattle.conditions.specs.Checks.{tableChecks, spectrumChecks}
 use Rattle.conditions.proofs.Dots.{at-most-twice}
 use Rattle.conditions.proofs.Sound.{light-clear}
-use Rattle.session.specs.CallChecks.{frameLimit}
-use Rattle.session.specs.Call.{Call, open-tables, open-light, set-standard, set-tolerance, trial, report}
-use Rattle.session.specs.Outcome.{Amount}
-use Rattle.session.specs.Ledger.{Held, none, held, Ledger, emptyLedger, Entry, standardAt, trialAt, entered}
+use Rattle.trials.specs.Outcome.{TrialOutcome}
+use Rattle.trials.specs.Checks.{frameLimit}
+use Rattle.session.specs.Call.{Call, open-tables, open-light, set-standard, set-tolerance, trial, report, look}
+use Rattle.session.specs.Ledger.{Held, none, held, Ledger, emptyLedger, Entry, standardAt, triedAt, countedAt, entered}
 
 abbrev pub Proper : Held Tables → Type 0
 Proper none = Unit
@@ -35,11 +36,9 @@ with-standard : (l : Ledger) (t : Held Tables) (readings : List ℕ) → Kept l 
 with-standard l none readings k e = k
 with-standard l (held t) readings k e = record { tables = k .tables; standard = e }
 
-with-trial : (l : Ledger) (t : Held Tables) (s : Held (List ℕ)) (o : Held Amount) (readings : List ℕ) → Kept l → Kept (trialAt l t s o readings .ledger)
-with-trial l none s o readings k = k
-with-trial l (held t) none o readings k = k
-with-trial l (held t) (held s) none readings k = k
-with-trial l (held t) (held s) (held a) readings k = record { tables = k .tables; standard = k .standard }
+with-counted : (l : Ledger) (a : Numbered TrialOutcome) → Kept l → Kept (countedAt l a .ledger)
+with-counted l (accepted t) k = record { tables = k .tables; standard = k .standard }
+with-counted l (refused cause) k = k
 
 abbrev KeptAfter : Entry → Type 0
 KeptAfter q = Kept (q .ledger)
@@ -50,8 +49,9 @@ kept-next l (open-tables t) k = either _ KeptAfter _ _ (λ c. k) (λ e. record {
 kept-next l (open-light light) k = either _ KeptAfter _ _ (λ c. k) (λ e. record { tables = light-clear light; standard = tt })
 kept-next l (set-standard readings) k = either _ KeptAfter _ _ (λ c. k) (λ e. with-standard l (l .conditions) readings k (clear-tail _ _ _ e))
 kept-next l (set-tolerance space amount) k = either _ KeptAfter _ _ (λ c. k) (λ e. record { tables = k .tables; standard = k .standard })
-kept-next l (trial readings) k = either _ KeptAfter _ _ (λ c. k) (λ e. with-trial l (l .conditions) (l .standard) (l .tolerance) readings k)
+kept-next l (trial readings) k = with-counted l (triedAt l readings) k
 kept-next l report k = k
+kept-next l (look i) k = record { tables = k .tables; standard = k .standard }
 
 -- what the checks leave: an accepted white, and sums that do not exceed twice its own
 pub white-kept : (t : Tables) → Proper (held t) → White (whiteOf t)

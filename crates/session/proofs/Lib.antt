@@ -1,6 +1,10 @@
+pub mod Trying
+pub mod Kept
+pub mod Told
+pub mod Looking
 pub mod Simulation
 pub mod Valid
 pub mod Replies
-pub mod Kept
 pub mod Counts
 pub mod Claim
+pub mod Looks

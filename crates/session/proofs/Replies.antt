@@ -1,14 +1,14 @@
--- What an opening, a standard and a trial reply, by what their checks found. Assumes nothing.
-use mathlib.Core.Path.{_≡_, sym, _∙_, ap}
+-- What an opening and a standard reply, by what their checks found, and a trial and a look, by what they are told. Assumes nothing.
+use mathlib.Core.Path.{_≡_, sym, _∙_, ap, subst}
 use mathlib.Core.Bool.{false, not}
-use mathlib.Core.List.{List, _++_}
+use mathlib.Core.List.{List}
 use Prim.Native.Nat.{ℕ}
 use Rattle.causes.specs.declared.Cause.{Cause}
 use Rattle.causes.specs.declared.Checked.{Checked}
 use Rattle.causes.specs.declared.Checked.the-variants.{Clear, Because}
 use Rattle.causes.specs.Causes.{causeNumber, Numbered}
-use Rattle.causes.specs.Checks.{firstOf, unless, numbered}
-use Rattle.causes.proofs.Checks.{passes, refuses, accepts, first-because, first-clear}
+use Rattle.causes.specs.Checks.{unless, numbered}
+use Rattle.causes.proofs.Checks.{passes, refuses, accepts}
 use Rattle.cie.specs.declared.Colour.{Colour}
 use Rattle.cie.specs.declared.Sums.{Sums}
 use Rattle.cie.specs.Colour.{colourOf}
@@ -16,18 +16,20 @@ use Rattle.conditions.specs.declared.Conditions.{Conditions}
 use Rattle.conditions.specs.declared.Prepared.{Prepared}
 use Rattle.conditions.specs.declared.measure.Measured.{Measured}
 use Rattle.conditions.specs.declared.measure.Measured.the-variants.{Whole, Refused}
-use Rattle.conditions.specs.Checks.{spectrumChecks}
 use Rattle.conditions.specs.Conditions.{Prepares}
 use Rattle.conditions.specs.Measure.{measureAnswer, measuredBy}
 use Rattle.conditions.proofs.Answers.{prepared-because, prepared-clear}
 use Rattle.conditions.proofs.Measuring.{measured-refused, measured-whole}
-use Rattle.rules.specs.declared.Judged.{Judged}
-use Rattle.rules.specs.Rules.{judgedOf}
+use Rattle.trials.specs.declared.Standing.{Standing}
+use Rattle.trials.specs.Outcome.{TrialOutcome}
+use Rattle.trials.specs.Checks.{frameLimit}
+use Rattle.trials.specs.Tried.{triedBy, ValidStanding}
+use Rattle.looks.specs.Look.{Look, Sight}
+use Rattle.looks.specs.Looked.{lookedBy}
 use Rattle.session.specs.declared.Session.{Session}
-use Rattle.session.specs.CallChecks.{frameLimit}
-use Rattle.session.specs.Call.{set-standard}
+use Rattle.session.specs.Call.{set-standard, trial, look}
 use Rattle.session.specs.Outcome.{refused}
-use Rattle.session.specs.Served.{Reply, served, refusedBy, openedBy, standardBy, triedBy, standingOf, Standing, trialReply}
+use Rattle.session.specs.Served.{Reply, served, refusedBy, openedBy, standardBy, standingOf, countedBy, seenBy, Valid}
 
 -- a call whose checks found a cause of this number is refused with it
 refused-as : (s : Session) (found : Checked) (a : Reply) {n : ℕ} → (d : Cause) × (found ≡ Because d) × (causeNumber d ≡ n) →
@@ -62,24 +64,13 @@ module _ (s : Session) (readings : List ℕ) where
         ∙ ap (λ (x : Sums). standardBy s (colourOf (s .conditions .white .sums) x)) (sym (w .1))
         ∙ ap (standardBy s) (sym k)
 
-  -- where something does not stand
-  pub trial-fallen : {cause : Cause} → firstOf (standingOf s) ≡ Because cause → trialReply s readings ≡ refusedBy s cause
-  trial-fallen h = refuses _ _ _ _ (first-because (standingOf s) (spectrumChecks frameLimit readings) _ h)
+-- what stands, as a trial and a look are told it
+module _ (s : Session) {q : Standing} (stands : q ≡ standingOf s) where
+  pub valid-told : Valid s → ValidStanding (s .conditions) q
+  valid-told v = subst (ValidStanding (s .conditions)) (sym stands) (v .standing)
 
-  -- where all stands, the spectrum's checks decide
-  past : Standing s → (f : Cause → Reply) (a : Reply) →
-      unless (firstOf (standingOf s ++ spectrumChecks frameLimit readings)) f a ≡ unless (firstOf (spectrumChecks frameLimit readings)) f a
-  past stands f a = ap (λ (t : Checked). unless t f a) (first-clear (standingOf s) (spectrumChecks frameLimit readings) stands)
+  pub trial-found : (readings : List ℕ) {a : Numbered TrialOutcome} → a ≡ triedBy (s .conditions) q readings → countedBy s a ≡ served s (trial readings)
+  trial-found readings e = ap (countedBy s) (e ∙ ap (λ (x : Standing). triedBy (s .conditions) x readings) stands)
 
-  module _ (stands : Standing s) {m : Measured} (e : measureAnswer m ≡ answer) where
-    pub trial-refused : {cause : Cause} → m ≡ Refused cause → trialReply s readings ≡ refusedBy s cause
-    trial-refused told = past stands _ _ ∙ refused-as s _ _ (measured-refused frameLimit _ _ _ _ e told)
-
-    pub trial-whole : {sums : Sums} {colour : Colour} {j : Judged} → m ≡ Whole sums → colour ≡ colourOf (s .conditions .white .sums) sums →
-        j ≡ judgedOf (s .standard) (s .tolerance) colour → trialReply s readings ≡ triedBy s colour j
-    trial-whole {sums} {colour} told k h =
-        let w = measured-whole frameLimit _ _ _ _ e told in
-        past stands _ _
-        ∙ accepts _ _ _ (w .0)
-        ∙ ap (λ (x : Colour). triedBy s x (judgedOf (s .standard) (s .tolerance) x)) (ap (colourOf (s .conditions .white .sums)) (sym (w .1)) ∙ sym k)
-        ∙ ap (triedBy s colour) (sym h)
+  pub look-seen : (k : Look) {a : Numbered Sight} → a ≡ lookedBy (s .conditions) q k → seenBy s a ≡ served s (look k)
+  look-seen k e = ap (seenBy s) (e ∙ ap (λ (x : Standing). lookedBy (s .conditions) x k) stands)

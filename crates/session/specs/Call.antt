@@ -1,8 +1,9 @@
--- Document 01, "Session": the calls, each with its arguments other than the session. Assumes nothing.
+-- Document 01, "Session", and the calls of document 02 that only look: each call with its arguments other than the session. Assumes nothing.
 use mathlib.Core.List.{List}
 use Prim.Native.Nat.{ℕ}
 use Rattle.cie.specs.declared.Space.{Space}
 use Rattle.cie.specs.Sums.{Tables}
+use Rattle.looks.specs.Look.{Look}
 
 pub data Call : Type 0 where
   open-tables : Tables → Call
@@ -11,3 +12,4 @@ pub data Call : Type 0 where
   set-tolerance : Space → ℕ → Call
   trial : List ℕ → Call
   report : Call
+  look : Look → Call

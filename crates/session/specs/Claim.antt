@@ -1,4 +1,5 @@
--- Demand 3: "a single claim about a list of these five calls as a whole, of any length". Assumes nothing.
+-- Demand 3: "a single claim about a list of these five calls as a whole, of any length", with calls that only look anywhere among them.
+-- Assumes nothing.
 use mathlib.Core.Path.{_≡_}
 use mathlib.Core.Bool.{Bool, true, false, cond}
 use mathlib.Core.List.{List, [], _∷_}
@@ -8,9 +9,11 @@ use Rattle.cie.specs.declared.Verdict.the-variants.{Pass, Fail, OnTheLine}
 use Rattle.cie.specs.Sums.{Tables, sumsOf, whiteOf}
 use Rattle.cie.specs.Exact.{squaresAt}
 use Rattle.cie.specs.Verdict.{Told}
+use Rattle.trials.specs.Outcome.{Amount}
+use Rattle.looks.specs.Look.{Look, preview, Sight, previewed}
 use Rattle.session.specs.declared.Session.{Session}
-use Rattle.session.specs.Call.{Call, open-tables, open-light, set-standard, set-tolerance, trial, report}
-use Rattle.session.specs.Outcome.{Amount, VerdictCounts, Outcome, accepted, coloured, tried, counted, refused}
+use Rattle.session.specs.Call.{Call, open-tables, open-light, set-standard, set-tolerance, trial, report, look}
+use Rattle.session.specs.Outcome.{VerdictCounts, Outcome, accepted, coloured, tried, counted, seen, refused}
 use Rattle.session.specs.Ledger.{Held, none, held, Ledger, emptyLedger, entered}
 use Rattle.session.specs.Served.{served, freshSession}
 
@@ -42,12 +45,29 @@ VerdictTold (held t) (held standard) none readings verdict = ⊥
 VerdictTold (held t) (held standard) (held a) readings verdict =
     Told (a .space) (squaresAt (a .space) (whiteOf t) (sumsOf t standard) (sumsOf t readings)) (a .units) verdict
 
+-- "'In force' in demand 3 is what the ledger has when the trial comes."
+abbrev pub VerdictAt : Ledger → List ℕ → Verdict → Type 0
+VerdictAt l readings verdict = VerdictTold (l .conditions) (l .standard) (l .tolerance) readings verdict
+
 abbrev pub TrialTold : Ledger → List ℕ → Outcome → Type 0
 TrialTold l readings accepted = ⊥
 TrialTold l readings (coloured colour) = ⊥
-TrialTold l readings (tried t) = VerdictTold (l .conditions) (l .standard) (l .tolerance) readings (t .verdict)
+TrialTold l readings (tried t) = VerdictAt l readings (t .verdict)
 TrialTold l readings (counted r) = ⊥
+TrialTold l readings (seen sight) = ⊥
 TrialTold l readings (refused cause) = Unit
+
+-- Document 02: "the mission's promise about verdicts covers what they show"
+abbrev pub SightTold : Ledger → Look → Sight → Type 0
+SightTold l (preview readings) (previewed t) = VerdictAt l readings (t .verdict)
+
+abbrev pub LookTold : Ledger → Look → Outcome → Type 0
+LookTold l k accepted = ⊥
+LookTold l k (coloured colour) = ⊥
+LookTold l k (tried t) = ⊥
+LookTold l k (counted r) = ⊥
+LookTold l k (seen sight) = SightTold l k sight
+LookTold l k (refused cause) = Unit
 
 -- "every report's tallies are exact": the verdicts that the trials before it in the list were given, counted over the list itself
 abbrev pub isPass : Verdict → Bool
@@ -70,9 +90,10 @@ shows p accepted = false
 shows p (coloured colour) = false
 shows p (tried t) = p (t .verdict)
 shows p (counted r) = false
+shows p (seen sight) = false
 shows p (refused cause) = false
 
--- whether a call is a trial that was given such a verdict
+-- whether a call is a trial that was given such a verdict: no other call is counted, whatever it shows
 abbrev pub given : (Verdict → Bool) → Call → Outcome → Bool
 given p (open-tables t) o = false
 given p (open-light light) o = false
@@ -80,6 +101,7 @@ given p (set-standard readings) o = false
 given p (set-tolerance space amount) o = false
 given p (trial readings) o = shows p o
 given p report o = false
+given p (look k) o = false
 
 unfoldable pub timesGiven : (Verdict → Bool) → List Event → ℕ
 timesGiven p [] = 0
@@ -93,14 +115,16 @@ ReportTold before accepted = ⊥
 ReportTold before (coloured colour) = ⊥
 ReportTold before (tried t) = ⊥
 ReportTold before (counted r) = r .counts ≡ verdictsIn before
+ReportTold before (seen sight) = ⊥
 ReportTold before (refused cause) = ⊥
 
--- no call but a trial shows a verdict
+-- no call but a trial or a look shows a verdict
 abbrev pub NoVerdict : Outcome → Type 0
 NoVerdict accepted = Unit
 NoVerdict (coloured colour) = Unit
 NoVerdict (tried t) = ⊥
 NoVerdict (counted r) = Unit
+NoVerdict (seen sight) = ⊥
 NoVerdict (refused cause) = Unit
 
 abbrev pub CallTold : List Event → Ledger → Call → Outcome → Type 0
@@ -110,6 +134,7 @@ CallTold before l (set-standard readings) o = NoVerdict o
 CallTold before l (set-tolerance space amount) o = NoVerdict o
 CallTold before l (trial readings) o = TrialTold l readings o
 CallTold before l report o = ReportTold before o
+CallTold before l (look k) o = LookTold l k o
 
 -- "each call is accepted or refused as by the ledger and gives exactly what the ledger gives", and what it tells is so
 pub record Right (before : List Event) (l : Ledger) (c : Call) (o : Outcome) : Type 0 where

@@ -1,13 +1,14 @@
 -- Document 01, "Lists of calls": the ledger, "which is fed each call with its arguments other than the session, and nothing that the program
 -- holds or answers". It stands on the paper alone. What it shares with the program are the lists of checks (CallChecks.antt names them), the tables
--- and formulas of `cie`, and the causes' numbers: no type and no rule that the program decides by. `sessionOf` in Stands.antt is the one map from
--- the ledger to the program. Assumes nothing.
+-- and formulas of `cie`, the causes' numbers and the words of an answer: no type and no rule that the program decides by. `sessionOf` in
+-- Stands.antt is the one map from the ledger to the program. Assumes nothing.
 use mathlib.Core.Bool.{Bool, true, false}
 use mathlib.Core.List.{List, [], _∷_}
 use Prim.Native.Nat.{ℕ, _+_}
 use Rattle.causes.specs.declared.Cause.{Cause}
 use Rattle.causes.specs.declared.Cause.the-variants.{NoConditions, NoStandard, NoTolerance}
-use Rattle.causes.specs.Causes.{causeNumber}
+use Rattle.causes.specs.Causes as causes
+use Rattle.causes.specs.Causes.{causeNumber, Numbered, refusal, mapped}
 use Rattle.causes.specs.Checks.{firstOf, unless}
 use Rattle.cie.specs.declared.Colour.{Colour}
 use Rattle.cie.specs.declared.Verdict.{Verdict}
@@ -18,9 +19,12 @@ use Rattle.cie.specs.Colour.{colourAt}
 use Rattle.cie.specs.Verdict.{margin, verdictOf, difference}
 use Rattle.conditions.specs.Checks.{tableChecks, lightChecks}
 use Rattle.rules.specs.Standing.{toleranceChecks}
-use Rattle.session.specs.Call.{Call, open-tables, open-light, set-standard, set-tolerance, trial, report}
-use Rattle.session.specs.Outcome.{Amount, VerdictCounts, Outcome, accepted, coloured, tried, counted, refused}
-use Rattle.session.specs.CallChecks.{standardChecks, trialChecks}
+use Rattle.trials.specs.Outcome.{Amount, TrialOutcome}
+use Rattle.trials.specs.Checks.{trialChecks}
+use Rattle.looks.specs.Look.{Look, preview, Sight, previewed}
+use Rattle.session.specs.Call.{Call, open-tables, open-light, set-standard, set-tolerance, trial, report, look}
+use Rattle.session.specs.Outcome.{VerdictCounts, Outcome, accepted, coloured, tried, counted, refused, looked}
+use Rattle.session.specs.CallChecks.{standardChecks}
 
 pub data Held (A : Type 0) : Type 0 where
   none : Held A
@@ -77,34 +81,42 @@ countedIn n Pass = record { passed = n .passed + 1; failed = n .failed; line = n
 countedIn n Fail = record { passed = n .passed; failed = n .failed + 1; line = n .line }
 countedIn n OnTheLine = record { passed = n .passed; failed = n .failed; line = n .line + 1 }
 
--- "and adds 1 to that verdict's count. It answers its own spectrum's colour, E and the verdict."
-abbrev pub countedAt : Ledger → Colour → Amount → Verdict → Entry
-countedAt l colour e verdict =
-    record {
-      ledger = record { conditions = l .conditions; standard = l .standard; tolerance = l .tolerance; counts = countedIn (l .counts) verdict };
-      outcome = tried (record { colour = colour; e = e; verdict = verdict });
-    }
-
 -- "E and the verdict by the formulas above": of the standard's colour p and the trial's q, in the space of the tolerance
-abbrev pub judgedAt : Ledger → Amount → Colour → Colour → Entry
-judgedAt l tolerance p q =
-    countedAt l q
-    (record { space = tolerance .space; units = difference (tolerance .space) p q })
-    (verdictOf (margin (tolerance .space)) (difference (tolerance .space) p q) (tolerance .units))
+abbrev pub judgedAt : Amount → Colour → Colour → TrialOutcome
+judgedAt tolerance p q =
+    let e = difference (tolerance .space) p q in
+    record { colour = q; e = record { space = tolerance .space; units = e }; verdict = verdictOf (margin (tolerance .space)) e (tolerance .units) }
 
 -- "A trial works out, under the ledger's conditions, the colours of both spectra, E and the verdict by the formulas above"
-abbrev pub trialAt : Ledger → Held Tables → Held (List ℕ) → Held Amount → List ℕ → Entry
-trialAt l none standard tolerance readings = refusedAt l NoConditions
-trialAt l (held t) none tolerance readings = refusedAt l NoStandard
-trialAt l (held t) (held standard) none readings = refusedAt l NoTolerance
-trialAt l (held t) (held standard) (held tolerance) readings = judgedAt l tolerance (colourAt t standard) (colourAt t readings)
+abbrev pub workedOut : Held Tables → Held (List ℕ) → Held Amount → List ℕ → Numbered TrialOutcome
+workedOut none standard tolerance readings = refusal NoConditions
+workedOut (held t) none tolerance readings = refusal NoStandard
+workedOut (held t) (held standard) none readings = refusal NoTolerance
+workedOut (held t) (held standard) (held tolerance) readings = causes.accepted (judgedAt tolerance (colourAt t standard) (colourAt t readings))
 
--- "At each call the call's checks run in their order"
-abbrev pub trialEntry : Ledger → List ℕ → Entry
-trialEntry l readings =
+-- "At each call the call's checks run in their order": what a trial of these readings finds, or its cause
+abbrev pub triedAt : Ledger → List ℕ → Numbered TrialOutcome
+triedAt l readings =
     unless (firstOf (trialChecks (isHeld (l .conditions)) (isHeld (l .standard)) (isHeld (l .tolerance)) (countSum (l .counts)) readings))
-    (refusedAt l)
-    (trialAt l (l .conditions) (l .standard) (l .tolerance) readings)
+    refusal
+    (workedOut (l .conditions) (l .standard) (l .tolerance) readings)
+
+-- "and adds 1 to that verdict's count. It answers its own spectrum's colour, E and the verdict."
+abbrev pub countedAt : Ledger → Numbered TrialOutcome → Entry
+countedAt l (causes.accepted t) =
+    record {
+      ledger = record { conditions = l .conditions; standard = l .standard; tolerance = l .tolerance; counts = countedIn (l .counts) (t .verdict) };
+      outcome = tried t;
+    }
+countedAt l (causes.refused cause) = record { ledger = l; outcome = refused cause }
+
+-- Document 02, "Add a preview of a trial": "document 01's ledger works one out like a trial"
+abbrev pub seenAt : Ledger → Look → Numbered Sight
+seenAt l (preview readings) = mapped previewed (triedAt l readings)
+
+-- "and adds nothing": whatever a look shows, the ledger stays as it is
+abbrev pub lookedAt : Ledger → Look → Entry
+lookedAt l k = record { ledger = l; outcome = looked (seenAt l k) }
 
 -- "A report changes nothing and answers the counts."
 abbrev pub entered : Ledger → Call → Entry
@@ -112,8 +124,9 @@ entered l (open-tables t) = unless (firstOf (tableChecks t)) (refusedAt l) (open
 entered l (open-light light) = unless (firstOf (lightChecks light)) (refusedAt l) (openedAt l (lightTables light))
 entered l (set-standard readings) = unless (firstOf (standardChecks (isHeld (l .conditions)) readings)) (refusedAt l) (standardAt l (l .conditions) readings)
 entered l (set-tolerance space amount) = unless (firstOf (toleranceChecks amount)) (refusedAt l) (toleranceAt l (record { space = space; units = amount }))
-entered l (trial readings) = trialEntry l readings
+entered l (trial readings) = countedAt l (triedAt l readings)
 entered l report = record { ledger = l; outcome = counted (record { counts = l .counts }) }
+entered l (look k) = lookedAt l k
 
 -- the outcomes of a list of calls, by the ledger
 abbrev pub outcomesAt : Ledger → List Call → List Outcome

@@ -6,3 +6,4 @@ pub mod Served
 pub mod Stands
 pub mod Meets
 pub mod Claim
+pub mod Looks

@@ -11,8 +11,9 @@ use Rattle.rules.specs.declared.Tallies.{Tallies}
 use Rattle.rules.specs.declared.Standard.{Standard}
 use Rattle.rules.specs.declared.Standard.the-variants.{Missing, Of}
 use Rattle.rules.specs.Rules.{toleranceOf}
+use Rattle.trials.specs.Outcome.{Amount}
 use Rattle.session.specs.declared.Session.{Session}
-use Rattle.session.specs.Outcome.{Amount, VerdictCounts}
+use Rattle.session.specs.Outcome.{VerdictCounts}
 use Rattle.session.specs.Ledger.{Held, none, held, isHeld, Ledger}
 
 abbrev pub heldConditions : Held Tables → Conditions

@@ -2,27 +2,26 @@
 ghost use mathlib.Core.Path.{_≡_};
 ghost use Rattle.cie.specs.Sums.{tablesOf};
 ghost use Rattle.session.specs.Call.{open-tables, open-light, set-standard, set-tolerance, trial, report};
-ghost use Rattle.session.specs.Served.{Valid, shown, freshSession, refusedBy, openedBy, standardBy, toleranceBy};
+ghost use Rattle.session.specs.Served.{Valid, shown, freshSession, refusedBy, openedBy, standardBy, toleranceBy, standingOf};
 ghost use Rattle.session.specs.Meets.{Meets};
 use causes::Cause;
 use causes::Checked;
 use cie::Colour;
 use cie::Space;
-use cie::Verdict;
-use cie::spectrum::READING_LIMIT;
 use conditions::Conditions;
 use conditions::measure;
 use conditions::measure::Measured;
-use rules::Difference;
-use rules::Judged;
+use looks::Seen;
 use rules::Standard;
 use rules::Tallies;
 use rules::Tolerance;
-use rules::judging;
 use rules::standing;
+use trials::FRAME_LIMIT;
+use trials::Standing;
+use trials::TrialAnswer;
+use trials::Tried;
 
-// The limit of the spectra that a session is given.
-const FRAME_LIMIT: u16 = READING_LIMIT;
+mod look;
 
 pub struct Session {
     conditions: Conditions,
@@ -30,13 +29,6 @@ pub struct Session {
     standard: Standard,
     tolerance: Tolerance,
     tallies: Tallies,
-}
-
-// What a trial answers: its colour, E in the tolerance's space, and the verdict.
-pub struct TrialAnswer {
-    pub colour: Colour,
-    pub difference: Difference,
-    pub verdict: Verdict,
 }
 
 // What a report answers.
@@ -50,6 +42,7 @@ pub enum Answer {
     Coloured(Colour),
     Tried(TrialAnswer),
     Counted(ReportAnswer),
+    Seen(Seen),
     Refused(Cause),
 }
 
@@ -203,41 +196,43 @@ impl Session {
         self.with_tolerance(rules::tolerance_of(space, amount))
     }
 
-    // Judges a spectrum against the standard: its colour, E and the verdict.
-    pub fn trial(mut self, readings: &[u16]) -> Served
-        requires { ⌜ Valid self ⌝ }
-        ensures { λ r. ⌜ Meets self (trial (now (readings .entry))) r ⌝ }
+    // What stands for a trial.
+    fn standing(self) -> Standing
+        ensures { λ r. ⌜ r ≡ standingOf self ⌝ }
     {
         let standard = self.standard;
         let tolerance = self.tolerance;
         let tallies = self.tallies;
-        let stands = standing::stands(self.opened, standard, tolerance, tallies);
-        if let Checked::Because(cause) = stands {
-            return self.refused(cause);
+        Standing {
+            opened: self.opened,
+            standard: standard,
+            tolerance: tolerance,
+            tallies: tallies,
         }
-        let measured = measure::measure(
+    }
+
+    // Judges a spectrum against the standard: its colour, E and the verdict, which is tallied.
+    pub fn trial(mut self, readings: &[u16]) -> Served
+        requires { ⌜ Valid self ⌝ }
+        ensures { λ r. ⌜ Meets self (trial (now (readings .entry))) r ⌝ }
+    {
+        let standing = self.standing();
+        let white = self.conditions.white;
+        let tried = trials::worked_out(
+            standing,
+            white,
             readings,
-            FRAME_LIMIT,
             &self.conditions.x,
             &self.conditions.y,
             &self.conditions.z,
         );
-        let Measured::Whole(sums) = measured else {
-            return self.refused(measure::cause_of(measured));
+        let trial = match tried {
+            Tried::Refused(cause) => return self.refused(cause),
+            Tried::Judged(trial) => trial,
         };
-        let white = self.conditions.white;
-        let colour = colour::colour_of(sums, white);
-        // read here, and not kept across the colour
-        let held = self.standard;
-        let Judged::By(e, verdict) = judging::judge(held, tolerance, colour) else {
-            return self.refused(Cause::NoTolerance);
-        };
+        let tallies = self.tallies;
+        let verdict = trial.verdict;
         self.tallies = standing::tallied(tallies, verdict);
-        let trial = TrialAnswer {
-            colour: colour,
-            difference: e,
-            verdict: verdict,
-        };
         Served {
             session: self,
             answer: Answer::Tried(trial),

@@ -1,6 +1,6 @@
 -- `calls::call` meets its contract: each arm makes the call that the definition has for its kind. Assumes nothing.
 use borrow.Author.Needs.{needs}
-use Rattle.calls.proofs.ByKind.{Kind, by-tables, by-light, by-standard, by-lab, by-luv, by-trial, by-report}
+use Rattle.calls.proofs.ByKind.{Kind, by-tables, by-light, by-standard, by-lab, by-luv, by-trial, by-preview, by-report}
 use Rattle.calls.proofs.call.Statement.{statement}
 use Rattle.calls.proofs.call.Tie as tie
 
@@ -30,15 +30,21 @@ returns-6 : tie.Need-returns-6
 returns-6 c = by-trial (read (c .before .before .before)) (c .before .before .match .keys6) (c .before .spectrum2 .ensures) (c .trial .ensures)
 
 returns-7 : tie.Need-returns-7
-returns-7 c =
+returns-7 c = by-preview (read (c .before .before .before)) (c .before .before .match .keys7) (c .before .spectrum3 .ensures) (c .preview .ensures)
+
+returns-8 : tie.Need-returns-8
+returns-8 c =
     let n = c .before .match .rest in
-    let n₄ = n .0 .0 in
-    by-report (read (c .before .before)) (n₄ .0 .0 .0 .1) (n₄ .0 .0 .1) (n₄ .0 .1) (n₄ .1) (n .0 .1) (n .1) (c .report .ensures)
+    let n₅ = n .0 .0 in
+    let n₂ = n₅ .0 .0 .0 in
+    by-report (read (c .before .before)) (n₂ .0 .1) (n₂ .1) (n₅ .0 .0 .1) (n₅ .0 .1) (n₅ .1) (n .0 .1) (n .1) (c .report .ensures)
 
 pub call-spec : {M : Type 1} → statement M
 call-spec =
     tie.close
     (tie.spec
+    (λ c κs. search needs)
+    (λ c κs. search needs)
     (λ c κs. search needs)
     (λ c κs. search needs)
     (λ c κs. search needs)
@@ -58,4 +64,5 @@ call-spec =
     returns-4
     returns-5
     returns-6
-    returns-7)
+    returns-7
+    returns-8)

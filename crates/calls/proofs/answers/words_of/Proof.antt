@@ -1,6 +1,10 @@
 -- `calls::answers::words_of` meets its contract: it takes the cases of the definition. Assumes nothing.
+use mathlib.Core.Path.{sym, ap, _∙_}
 use borrow.Author.Needs.{needs}
-use Rattle.calls.proofs.Laid.{laid-accepted, laid-coloured, laid-tried, laid-counted, laid-refused}
+use Rattle.session.specs.declared.Answer.{Answer}
+use Rattle.session.specs.Served.{outcomeOf}
+use Rattle.calls.specs.Records.{answerRecord}
+use Rattle.calls.proofs.Laid.{laid-accepted, laid-coloured, laid-tried, laid-counted}
 use Rattle.calls.proofs.answers.words_of.Statement.{statement}
 use Rattle.calls.proofs.answers.words_of.Tie as tie
 
@@ -11,16 +15,16 @@ returns-2 : tie.Need-returns-2
 returns-2 c = laid-coloured (c .before .before .answer .given .1) (c .colour-words .ensures)
 
 returns-3 : tie.Need-returns-3
-returns-3 c =
-    let amount = c .before .before in
-    let told = amount .before .before .before .answer2 .given .1 in
-    laid-tried told (amount .amount-of .ensures .0) (amount .amount-of .ensures .1) (c .before .verdict-word .ensures) (c .colour-words2 .ensures)
+returns-3 c = laid-tried (c .before .before .answer2 .given .1) (c .trial-words .ensures)
 
 returns-4 : tie.Need-returns-4
 returns-4 c = laid-counted (c .before .before .before .answer3 .given .1) (c .short-words2 .ensures)
 
 returns-5 : tie.Need-returns-5
-returns-5 c = laid-refused (c .before .before .before .answer4 .given .1) (c .before .number .ensures) (c .short-words3 .ensures)
+returns-5 c = c .seen-words .ensures ∙ ap (λ (a : Answer). answerRecord (outcomeOf a)) (sym (c .before .before .answer4 .given .1))
+
+returns-6 : tie.Need-returns-6
+returns-6 c = c .refused-words .ensures ∙ ap (λ (a : Answer). answerRecord (outcomeOf a)) (sym (c .before .before .answer5 .given .1))
 
 pub words-of-spec : {M : Type 1} → statement M
 words-of-spec =
@@ -32,15 +36,15 @@ words-of-spec =
     (λ c κs. search needs)
     (λ c. search needs)
     (λ c κs. search needs)
-    (λ c κs. search needs)
-    (λ c κs. search needs)
     (λ c. search needs)
     (λ c κs. search needs)
     (λ c. search needs)
     (λ c κs. search needs)
+    (λ c. search needs)
     (λ c κs. search needs)
     returns
     returns-2
     returns-3
     returns-4
-    returns-5)
+    returns-5
+    returns-6)

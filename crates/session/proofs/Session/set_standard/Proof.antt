@@ -6,7 +6,7 @@ use borrow.Author.Needs.{needs}
 use Rattle.causes.proofs.Checks.{fires}
 use Rattle.conditions.specs.Measure.{causeIn}
 use Rattle.conditions.proofs.Measuring.{measured-ready}
-use Rattle.session.specs.CallChecks.{frameLimit}
+use Rattle.trials.specs.Checks.{frameLimit}
 use Rattle.session.specs.Served.{refusedBy}
 use Rattle.session.proofs.Valid.{meets}
 use Rattle.session.proofs.Replies.{standard-refused, standard-whole}
@@ -22,7 +22,7 @@ tested c = c .before .before .before .before .before .before .before
 
 measure-requires : tie.Need-measure-requires
 measure-requires c κs =
-    let s = tested c .before .before .pre .sound in
+    let s = tested c .before .before .pre .standing .sound in
     (omega arith, s .weights-x, s .weights-y, s .weights-z)
 
 unmeasured : tie.Need-returns-2
@@ -41,7 +41,7 @@ colour-of-requires c κs =
     let whole = c .before .before in
     let m = whole .before .before in
     let start = tested (m .before) .before .before in
-    measured-ready (start .args .t1 .conditions) (start .pre .sound) frameLimit (omega arith) (now (start .args .readings))
+    measured-ready (start .args .t1 .conditions) (start .pre .standing .sound) frameLimit (omega arith) (now (start .args .readings))
     (m .measure .ensures) (whole .measured .given .1)
 
 measured : tie.Need-returns-3

@@ -1,0 +1,17 @@
+-- What each look answers under conditions, by what stands beside them, refusals included. Assumes nothing.
+use Rattle.causes.specs.Causes.{Numbered, accepted, refusal, mapped}
+use Rattle.conditions.specs.declared.Conditions.{Conditions}
+use Rattle.trials.specs.declared.Standing.{Standing}
+use Rattle.trials.specs.Tried.{trialOutcome, triedBy}
+use Rattle.looks.specs.declared.Seen.{Seen}
+use Rattle.looks.specs.declared.Seen.the-variants.{Previewed, Refused}
+use Rattle.looks.specs.Look.{Look, preview, Sight, previewed}
+
+-- what a look answers, in the paper's numbers and values
+abbrev pub seenAnswer : Seen → Numbered Sight
+seenAnswer (Previewed t) = accepted (previewed (trialOutcome t))
+seenAnswer (Refused cause) = refusal cause
+
+-- "Its colour, E, verdict or cause equal those of the trial": a preview is worked out as a trial is
+abbrev pub lookedBy : Conditions → Standing → Look → Numbered Sight
+lookedBy c s (preview readings) = mapped previewed (triedBy c s readings)

@@ -1,0 +1,34 @@
+// The calls that only look. A look is lent the weights and told what stands: it is given no session, so it cannot move one.
+ghost use mathlib.Core.Path.{_≡_};
+ghost use Rattle.trials.specs.Tried.{ValidStanding, conditionsBy};
+ghost use Rattle.looks.specs.Look.{preview};
+ghost use Rattle.looks.specs.Looked.{seenAnswer, lookedBy};
+use causes::Cause;
+use colour::white::WhitePoint;
+use trials::Standing;
+use trials::TrialAnswer;
+use trials::Tried;
+
+// What a look answers.
+pub enum Seen {
+    Previewed(TrialAnswer),
+    Refused(Cause),
+}
+
+// What a trial of a spectrum would answer.
+pub fn preview<'a>(
+    standing: Standing,
+    white: WhitePoint,
+    readings: &[u16],
+    x: &'a [u64],
+    y: &'a [u64],
+    z: &'a [u64],
+) -> Seen
+    requires { ⌜ ValidStanding (conditionsBy (now x) (now y) (now z) white) standing ⌝ }
+    ensures { λ r. ⌜ seenAnswer r ≡ lookedBy (conditionsBy (now (x .entry)) (now (y .entry)) (now (z .entry)) white) standing (preview (now (readings .entry))) ⌝ }
+{
+    match trials::worked_out(standing, white, readings, x, y, z) {
+        Tried::Judged(trial) => Seen::Previewed(trial),
+        Tried::Refused(cause) => Seen::Refused(cause),
+    }
+}

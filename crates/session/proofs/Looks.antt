@@ -1,0 +1,35 @@
+-- A preview is worked out by the definition that a trial is worked out by, and the call after a look gets the session that the look got.
+-- Assumes nothing.
+use mathlib.Core.Path.{_≡_, refl, ap}
+use mathlib.Core.List.{List, [], _∷_, _++_}
+use lib.ListN.{length}
+use Rattle.causes.specs.Causes.{Numbered, accepted, refused, mapped}
+use Rattle.trials.specs.Outcome.{TrialOutcome}
+use Rattle.trials.specs.Tried.{triedBy}
+use Rattle.looks.specs.Look.{Look, previewed}
+use Rattle.session.specs.declared.Session.{Session}
+use Rattle.session.specs.Call.{Call, look}
+use Rattle.session.specs.Outcome.{Outcome, looked}
+use Rattle.session.specs.Served.{served, standingOf, countedBy}
+use Rattle.session.specs.Claim.{outcomesFrom}
+use Rattle.session.specs.Looks.{asPreview, PreviewIsTrial, without, LookLeftOut}
+
+-- whatever the working out found
+shown-alike : (s : Session) (a : Numbered TrialOutcome) → looked (mapped previewed a) ≡ asPreview (countedBy s a .outcome)
+shown-alike s (accepted t) = refl
+shown-alike s (refused cause) = refl
+
+pub preview-is-trial : PreviewIsTrial
+preview-is-trial =
+    record {
+      answer = λ s readings. shown-alike s (triedBy (s .conditions) (standingOf s) readings);
+      unmoved = λ s k. refl;
+    }
+
+left-out : (s : Session) (before after : List Call) (k : Look) →
+    outcomesFrom s (before ++ after) ≡ without (length before) (outcomesFrom s (before ++ (look k ∷ after)))
+left-out s [] after k = refl
+left-out s (c ∷ before) after k = ap (λ (os : List Outcome). served s c .outcome ∷ os) (left-out (served s c .session) before after k)
+
+pub look-left-out : LookLeftOut
+look-left-out = record { others = left-out }

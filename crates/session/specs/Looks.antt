@@ -1,0 +1,34 @@
+-- Document 02, "See the verdict first": what is claimed of the calls that only look, beside the claim about every list. Assumes nothing.
+use mathlib.Core.Path.{_≡_}
+use mathlib.Core.List.{List, _∷_, _++_}
+use Prim.Native.Nat.{ℕ, suc}
+use lib.ListN.{length, take, drop}
+use Rattle.looks.specs.Look.{Look, preview, previewed}
+use Rattle.session.specs.declared.Session.{Session}
+use Rattle.session.specs.Call.{Call, trial, look}
+use Rattle.session.specs.Outcome.{Outcome, accepted, coloured, tried, counted, seen, refused}
+use Rattle.session.specs.Served.{served}
+use Rattle.session.specs.Claim.{outcomesFrom}
+
+-- a trial's outcome as a preview gives it: what it answers is shown, and a cause is the same cause
+abbrev pub asPreview : Outcome → Outcome
+asPreview accepted = accepted
+asPreview (coloured colour) = coloured colour
+asPreview (tried t) = seen (previewed t)
+asPreview (counted r) = counted r
+asPreview (seen sight) = seen sight
+asPreview (refused cause) = refused cause
+
+-- "Its colour, E, verdict or cause equal those of the trial done on a copy of the session, and the session itself doesn't move."
+pub record PreviewIsTrial : Type 0 where
+  pub answer : (s : Session) (readings : List ℕ) → served s (look (preview readings)) .outcome ≡ asPreview (served s (trial readings) .outcome)
+  pub unmoved : (s : Session) (k : Look) → served s (look k) .session ≡ s
+
+-- a list without what stands at a place
+abbrev pub without : {A : Type 0} → ℕ → List A → List A
+without n xs = take n xs ++ drop (suc n) xs
+
+-- "Previews may stand anywhere among the calls": leaving a look out of a list changes no other call's outcome
+pub record LookLeftOut : Type 0 where
+  pub others : (s : Session) (before after : List Call) (k : Look) →
+      outcomesFrom s (before ++ after) ≡ without (length before) (outcomesFrom s (before ++ (look k ∷ after)))

@@ -1,0 +1,31 @@
+// The calls that only look: each lends the session's weights, says what stands, and returns the session as it was.
+ghost use Rattle.looks.specs.Look.{preview};
+ghost use Rattle.session.specs.Call.{look};
+ghost use Rattle.session.specs.Served.{Valid};
+ghost use Rattle.session.specs.Meets.{Meets};
+use crate::Answer;
+use crate::Served;
+use crate::Session;
+
+impl Session {
+    // Shows what a trial of a spectrum would answer, and tallies nothing.
+    pub fn preview(self, readings: &[u16]) -> Served
+        requires { ⌜ Valid self ⌝ }
+        ensures { λ r. ⌜ Meets self (look (preview (now (readings .entry)))) r ⌝ }
+    {
+        let standing = self.standing();
+        let white = self.conditions.white;
+        let seen = looks::preview(
+            standing,
+            white,
+            readings,
+            &self.conditions.x,
+            &self.conditions.y,
+            &self.conditions.z,
+        );
+        Served {
+            session: self,
+            answer: Answer::Seen(seen),
+        }
+    }
+}

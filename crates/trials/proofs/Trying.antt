@@ -1,0 +1,62 @@
+-- What a trial finds, by what stands and by what measuring answers: its checks are those of what must stand, then those of the spectrum.
+-- Assumes nothing.
+use mathlib.Core.Path.{_≡_, sym, _∙_, ap}
+use mathlib.Core.List.{List, _++_}
+use Prim.Native.Nat.{ℕ}
+use Rattle.causes.specs.declared.Cause.{Cause}
+use Rattle.causes.specs.declared.Checked.{Checked}
+use Rattle.causes.specs.declared.Checked.the-variants.{Clear, Because}
+use Rattle.causes.specs.Causes.{Numbered, refused, refusal}
+use Rattle.causes.specs.Checks.{Check, firstOf, unless}
+use Rattle.causes.proofs.Checks.{refuses, accepts, first-because, first-clear}
+use Rattle.cie.specs.declared.Colour.{Colour}
+use Rattle.cie.specs.declared.Sums.{Sums}
+use Rattle.cie.specs.Colour.{colourOf}
+use Rattle.conditions.specs.declared.Conditions.{Conditions}
+use Rattle.conditions.specs.declared.measure.Measured.{Measured}
+use Rattle.conditions.specs.declared.measure.Measured.the-variants.{Whole, Refused}
+use Rattle.conditions.specs.Checks.{spectrumChecks}
+use Rattle.conditions.specs.Measure.{measureAnswer, measuredBy}
+use Rattle.conditions.proofs.Measuring.{measured-refused, measured-whole}
+use Rattle.rules.specs.declared.Judged.{Judged}
+use Rattle.rules.specs.Standing.{standingChecks}
+use Rattle.rules.specs.Rules.{hasStandard, hasTolerance, judgedOf, tallySum}
+use Rattle.trials.specs.declared.Standing.{Standing}
+use Rattle.trials.specs.Outcome.{TrialOutcome}
+use Rattle.trials.specs.Checks.{frameLimit}
+use Rattle.trials.specs.Tried.{judgedAs, triedBy}
+
+-- what must stand before a trial's spectrum is looked at
+abbrev standingIn : Standing → List Check
+standingIn s = standingChecks (s .opened) (hasStandard (s .standard)) (hasTolerance (s .tolerance)) (tallySum (s .tallies))
+
+abbrev pub Stands : Standing → Type 0
+Stands s = firstOf (standingIn s) ≡ Clear
+
+module _ (c : Conditions) (s : Standing) (readings : List ℕ) where
+  -- where something does not stand
+  pub tried-fallen : {cause : Cause} → firstOf (standingIn s) ≡ Because cause → triedBy c s readings ≡ refusal cause
+  unfolding triedBy
+  tried-fallen h = refuses _ _ _ _ (first-because (standingIn s) (spectrumChecks frameLimit readings) _ h)
+
+  -- where all stands, the spectrum's checks decide
+  past : Stands s → (a : Numbered TrialOutcome) →
+      unless (firstOf (standingIn s ++ spectrumChecks frameLimit readings)) refusal a ≡ unless (firstOf (spectrumChecks frameLimit readings)) refusal a
+  past stands a = ap (λ (t : Checked). unless t refusal a) (first-clear (standingIn s) (spectrumChecks frameLimit readings) stands)
+
+  module _ (stands : Stands s) {m : Measured} (e : measureAnswer m ≡ measuredBy frameLimit (c .x) (c .y) (c .z) readings) where
+    pub tried-refused : {cause : Cause} → m ≡ Refused cause → triedBy c s readings ≡ refusal cause
+    unfolding triedBy
+    tried-refused told =
+        let w = measured-refused frameLimit _ _ _ _ e told in
+        past stands _ ∙ refuses _ _ _ _ (w .1) ∙ ap (λ (n : ℕ). refused n) (w .2)
+
+    pub tried-whole : {sums : Sums} {colour : Colour} {j : Judged} → m ≡ Whole sums → colour ≡ colourOf (c .white .sums) sums →
+        j ≡ judgedOf (s .standard) (s .tolerance) colour → triedBy c s readings ≡ judgedAs colour j
+    unfolding triedBy
+    tried-whole {sums} {colour} told k h =
+        let w = measured-whole frameLimit _ _ _ _ e told in
+        past stands _
+        ∙ accepts _ _ _ (w .0)
+        ∙ ap (λ (x : Colour). judgedAs x (judgedOf (s .standard) (s .tolerance) x)) (ap (colourOf (c .white .sums)) (sym (w .1)) ∙ sym k)
+        ∙ ap (judgedAs colour) (sym h)

@@ -1,0 +1,16 @@
+-- Document 01, "Session": the checks of a trial, in their order, and the limit of the readings that a session is given. Assumes nothing.
+use mathlib.Core.Bool.{Bool}
+use mathlib.Core.List.{List, _++_}
+use Prim.Native.Nat.{ℕ}
+use Rattle.causes.specs.Checks.{Check}
+use Rattle.cie.specs.Scales.{readingLimit}
+use Rattle.conditions.specs.Checks.{spectrumChecks}
+use Rattle.rules.specs.Standing.{standingChecks}
+
+-- the limit of the spectra that a session is given
+abbrev pub frameLimit : ℕ
+frameLimit = readingLimit
+
+-- "Trial (spectrum): 6, 7, 8, 10, 1, 2."
+abbrev pub trialChecks : Bool → Bool → Bool → ℕ → List ℕ → List Check
+trialChecks opened standard tolerance count readings = standingChecks opened standard tolerance count ++ spectrumChecks frameLimit readings

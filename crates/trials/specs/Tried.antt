@@ -1,0 +1,55 @@
+-- What a trial finds under conditions, by what stands beside them, refusals included: the one working out of a trial and of a preview.
+-- Assumes nothing.
+use mathlib.Core.List.{List}
+use Prim.Native.Nat.{ℕ, _≤_}
+use Rattle.causes.specs.declared.Cause.the-variants.{NoTolerance}
+use Rattle.causes.specs.Causes.{Numbered, accepted, refusal}
+use Rattle.causes.specs.Checks.{firstOf, unless}
+use Rattle.cie.specs.declared.Colour.{Colour}
+use Rattle.colour.specs.declared.white.WhitePoint.{WhitePoint}
+use Rattle.conditions.specs.declared.Conditions.{Conditions}
+use Rattle.conditions.specs.Conditions.{Sound}
+use Rattle.conditions.specs.Measure.{colourUnder}
+use Rattle.rules.specs.declared.Difference.{Difference}
+use Rattle.rules.specs.declared.Judged.{Judged}
+use Rattle.rules.specs.declared.Judged.the-variants.{Without, By}
+use Rattle.rules.specs.Standing.{sessionLimit}
+use Rattle.rules.specs.Rules.{hasTolerance, hasStandard, SizedStandard, spaceOf, unitsOf, judgedOf, tallySum}
+use Rattle.trials.specs.declared.Standing.{Standing}
+use Rattle.trials.specs.declared.TrialAnswer.{TrialAnswer}
+use Rattle.trials.specs.declared.Tried.{Tried}
+use Rattle.trials.specs.declared.Tried.the-variants.{Judged as Found, Refused}
+use Rattle.trials.specs.Outcome.{Amount, TrialOutcome}
+use Rattle.trials.specs.Checks.{trialChecks}
+
+-- what a trial answers, in the paper's numbers and values
+abbrev pub amountOf : Difference → Amount
+amountOf e = record { space = spaceOf e; units = unitsOf e }
+
+abbrev pub trialOutcome : TrialAnswer → TrialOutcome
+trialOutcome t = record { colour = t .colour; e = amountOf (t .difference); verdict = t .verdict }
+
+abbrev pub triedAnswer : Tried → Numbered TrialOutcome
+triedAnswer (Found t) = accepted (trialOutcome t)
+triedAnswer (Refused cause) = refusal cause
+
+-- conditions whose weights are lent
+abbrev pub conditionsBy : List ℕ → List ℕ → List ℕ → WhitePoint → Conditions
+conditionsBy x y z white = record { x = x; y = y; z = z; white = white }
+
+-- "Returns colour, E in the tolerance's space, and the verdict."
+abbrev pub judgedAs : Colour → Judged → Numbered TrialOutcome
+judgedAs colour Without = refusal NoTolerance
+judgedAs colour (By e verdict) = accepted (record { colour = colour; e = amountOf e; verdict = verdict })
+
+-- a trial of these readings
+unfoldable pub triedBy : Conditions → Standing → List ℕ → Numbered TrialOutcome
+triedBy c s readings =
+    unless (firstOf (trialChecks (s .opened) (hasStandard (s .standard)) (hasTolerance (s .tolerance)) (tallySum (s .tallies)) readings)) refusal
+    (let colour = colourUnder c readings in judgedAs colour (judgedOf (s .standard) (s .tolerance) colour))
+
+-- what holds of a session that is fresh, or that an earlier call returned or left
+pub record ValidStanding (c : Conditions) (s : Standing) : Type 0 where
+  pub sound : Sound c
+  pub standard : SizedStandard (s .standard)
+  pub count : tallySum (s .tallies) ≤ sessionLimit

@@ -1,0 +1,77 @@
+// A trial worked out, apart from where a session lies: its weights are lent, and what stands beside them is small. A trial and a preview of one
+// are both worked out here.
+ghost use mathlib.Core.Path.{_≡_};
+ghost use Rattle.trials.specs.Tried.{ValidStanding, conditionsBy, triedAnswer, triedBy};
+use causes::Cause;
+use causes::Checked;
+use cie::Colour;
+use cie::Verdict;
+use cie::spectrum::READING_LIMIT;
+use colour::white::WhitePoint;
+use conditions::measure;
+use conditions::measure::Measured;
+use rules::Difference;
+use rules::Judged;
+use rules::Standard;
+use rules::Tallies;
+use rules::Tolerance;
+use rules::judging;
+use rules::standing;
+
+// The limit of the spectra that a session is given.
+pub const FRAME_LIMIT: u16 = READING_LIMIT;
+
+// What a session holds beside its conditions.
+pub struct Standing {
+    pub opened: bool,
+    pub standard: Standard,
+    pub tolerance: Tolerance,
+    pub tallies: Tallies,
+}
+
+// What a trial answers: its colour, E in the tolerance's space, and the verdict.
+pub struct TrialAnswer {
+    pub colour: Colour,
+    pub difference: Difference,
+    pub verdict: Verdict,
+}
+
+// A trial's answer, or the cause against it.
+pub enum Tried {
+    Judged(TrialAnswer),
+    Refused(Cause),
+}
+
+// What a trial of a spectrum finds.
+pub fn worked_out<'a>(
+    standing: Standing,
+    white: WhitePoint,
+    readings: &[u16],
+    x: &'a [u64],
+    y: &'a [u64],
+    z: &'a [u64],
+) -> Tried
+    requires { ⌜ ValidStanding (conditionsBy (now x) (now y) (now z) white) standing ⌝ }
+    ensures { λ r. ⌜ triedAnswer r ≡ triedBy (conditionsBy (now (x .entry)) (now (y .entry)) (now (z .entry)) white) standing (now (readings .entry)) ⌝ }
+{
+    let standard = standing.standard;
+    let tolerance = standing.tolerance;
+    let tallies = standing.tallies;
+    let stands = standing::stands(standing.opened, standard, tolerance, tallies);
+    if let Checked::Because(cause) = stands {
+        return Tried::Refused(cause);
+    }
+    let measured = measure::measure(readings, FRAME_LIMIT, x, y, z);
+    let Measured::Whole(sums) = measured else {
+        return Tried::Refused(measure::cause_of(measured));
+    };
+    let colour = colour::colour_of(sums, white);
+    let Judged::By(e, verdict) = judging::judge(standard, tolerance, colour) else {
+        return Tried::Refused(Cause::NoTolerance);
+    };
+    Tried::Judged(TrialAnswer {
+        colour: colour,
+        difference: e,
+        verdict: verdict,
+    })
+}
