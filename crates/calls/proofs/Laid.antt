@@ -18,7 +18,7 @@ use Rattle.looks.specs.Looked.{seenAnswer}
 use Rattle.session.specs.declared.Answer.{Answer}
 use Rattle.session.specs.declared.Answer.the-variants.{Accepted, Coloured, Tried, Counted}
 use Rattle.session.specs.declared.ReportAnswer.{ReportAnswer}
-use Rattle.session.specs.Outcome.{Outcome, accepted, coloured, tried, counted, seen, refused, looked}
+use Rattle.session.specs.Outcome.{Outcome, accepted, coloured, tried, counted, seen, refused, lookOutcome}
 use Rattle.session.specs.Served.{outcomeOf}
 use Rattle.calls.specs.Records.{answerWords, chromaticityWords, colourWords, spaceWord, verdictWord, trialWords, padded, answerRecord}
 
@@ -93,6 +93,6 @@ module _ {answer : Answer} {r : List ℕ} where
 
 -- and of what a look shows
 pub laid-previewed : {seen : Seen} {r : List ℕ} {t : TrialAnswer} → seen ≡ Previewed t → r ≡ padded (5 ∷ trialWords (trialOutcome t))
-    → r ≡ answerRecord (looked (seenAnswer seen))
+    → r ≡ answerRecord (lookOutcome (seenAnswer seen))
 unfolding answerRecord
 laid-previewed e q = rw e q

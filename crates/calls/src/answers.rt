@@ -7,7 +7,7 @@ ghost use lib.Seq.{sets};
 ghost use Rattle.causes.specs.Causes.{causeNumber};
 ghost use Rattle.trials.specs.Tried.{amountOf, trialOutcome};
 ghost use Rattle.looks.specs.Looked.{seenAnswer};
-ghost use Rattle.session.specs.Outcome.{refused, looked};
+ghost use Rattle.session.specs.Outcome.{refused, lookOutcome};
 ghost use Rattle.session.specs.Served.{outcomeOf};
 ghost use Rattle.calls.specs.Records.{answerWords, chromaticityWords, spaceWord, verdictWord, colourWords, trialWords, padded, answerRecord};
 use causes::Cause;
@@ -111,7 +111,7 @@ fn refused_words(cause: Cause) -> [u32; 32]
 }
 
 fn seen_words(seen: Seen) -> [u32; 32]
-    ensures { λ r. ⌜ r ≡ answerRecord (looked (seenAnswer seen)) ⌝ }
+    ensures { λ r. ⌜ r ≡ answerRecord (lookOutcome (seenAnswer seen)) ⌝ }
 {
     match seen {
         Seen::Previewed(t) => trial_words(5, t),

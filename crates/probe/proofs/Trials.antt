@@ -9,7 +9,7 @@ use Rattle.looks.specs.Look.{Sight}
 use Rattle.session.specs.declared.Session.{Session}
 use Rattle.session.specs.declared.Served.{Served}
 use Rattle.session.specs.Call.{Call, open-light, set-standard, set-tolerance, trial, report}
-use Rattle.session.specs.Outcome.{Outcome, looked}
+use Rattle.session.specs.Outcome.{Outcome, lookOutcome}
 use Rattle.session.specs.Served.{Reply, served, freshSession}
 use Rattle.session.specs.Meets.{Meets}
 use Rattle.probe.specs.Probe.{after, sessionFor, afterTrials, passedIn, passCount}
@@ -47,6 +47,6 @@ counted light standard readings amount count e e₁ e₂ =
     ap passedIn (e₂ ∙ ap (λ (x : Session). served x report .outcome) (e₁ ∙ ap (λ (x : Session). afterTrials x readings count) e))
 
 -- a look counts no passes
-pub look-counts : (a : Numbered Sight) → 0 ≡ passedIn (looked a)
+pub look-counts : (a : Numbered Sight) → 0 ≡ passedIn (lookOutcome a)
 look-counts (accepted sight) = refl
 look-counts (refused cause) = refl

@@ -6,8 +6,8 @@ use Rattle.causes.specs.Causes.{Numbered, accepted, refused, mapped}
 use Rattle.trials.specs.Outcome.{TrialOutcome}
 use Rattle.looks.specs.Look.{Look, preview, previewed}
 use Rattle.looks.specs.Looked.{lookedBy}
-use Rattle.session.specs.Outcome.{looked}
-use Rattle.session.specs.Ledger.{Ledger, triedAt, seenAt, lookedAt}
+use Rattle.session.specs.Outcome.{lookOutcome}
+use Rattle.session.specs.Ledger.{Ledger, triedAt, lookedAt}
 use Rattle.session.specs.Served.{standingOf}
 use Rattle.session.specs.Stands.{sessionOf}
 use Rattle.session.specs.Claim.{LookTold}
@@ -15,13 +15,13 @@ use Rattle.session.proofs.Trying.{tried-same}
 use Rattle.session.proofs.Kept.{Kept}
 use Rattle.session.proofs.Told.{Owed, tried-told}
 
-pub looking : (l : Ledger) (k : Look) → lookedBy (sessionOf l .conditions) (standingOf (sessionOf l)) k ≡ seenAt l k
+pub looking : (l : Ledger) (k : Look) → lookedBy (sessionOf l .conditions) (standingOf (sessionOf l)) k ≡ lookedAt l k
 looking l (preview readings) = ap (mapped previewed) (tried-same l readings)
 
 preview-told : (l : Ledger) (readings : List ℕ) (a : Numbered TrialOutcome) → Owed l readings a →
-    LookTold l (preview readings) (looked (mapped previewed a))
+    LookTold l (preview readings) (lookOutcome (mapped previewed a))
 preview-told l readings (accepted t) h = h
 preview-told l readings (refused cause) h = tt
 
-pub look-told : (l : Ledger) (k : Look) → Kept l → LookTold l k (lookedAt l k .outcome)
+pub look-told : (l : Ledger) (k : Look) → Kept l → LookTold l k (lookOutcome (lookedAt l k))
 look-told l (preview readings) k = preview-told l readings (triedAt l readings) (tried-told l readings k)

@@ -23,7 +23,7 @@ use Rattle.trials.specs.Outcome.{Amount, TrialOutcome}
 use Rattle.trials.specs.Checks.{trialChecks}
 use Rattle.looks.specs.Look.{Look, preview, Sight, previewed}
 use Rattle.session.specs.Call.{Call, open-tables, open-light, set-standard, set-tolerance, trial, report, look}
-use Rattle.session.specs.Outcome.{VerdictCounts, Outcome, accepted, coloured, tried, counted, refused, looked}
+use Rattle.session.specs.Outcome.{VerdictCounts, Outcome, accepted, coloured, tried, counted, refused, lookOutcome}
 use Rattle.session.specs.CallChecks.{standardChecks}
 
 pub data Held (A : Type 0) : Type 0 where
@@ -111,12 +111,12 @@ countedAt l (causes.accepted t) =
 countedAt l (causes.refused cause) = record { ledger = l; outcome = refused cause }
 
 -- Document 02, "Add a preview of a trial": "document 01's ledger works one out like a trial"
-abbrev pub seenAt : Ledger → Look → Numbered Sight
-seenAt l (preview readings) = mapped previewed (triedAt l readings)
+abbrev pub lookedAt : Ledger → Look → Numbered Sight
+lookedAt l (preview readings) = mapped previewed (triedAt l readings)
 
 -- "and adds nothing": whatever a look shows, the ledger stays as it is
-abbrev pub lookedAt : Ledger → Look → Entry
-lookedAt l k = record { ledger = l; outcome = looked (seenAt l k) }
+abbrev pub seenAt : Ledger → Numbered Sight → Entry
+seenAt l answer = record { ledger = l; outcome = lookOutcome answer }
 
 -- "A report changes nothing and answers the counts."
 abbrev pub entered : Ledger → Call → Entry
@@ -126,7 +126,7 @@ entered l (set-standard readings) = unless (firstOf (standardChecks (isHeld (l .
 entered l (set-tolerance space amount) = unless (firstOf (toleranceChecks amount)) (refusedAt l) (toleranceAt l (record { space = space; units = amount }))
 entered l (trial readings) = countedAt l (triedAt l readings)
 entered l report = record { ledger = l; outcome = counted (record { counts = l .counts }) }
-entered l (look k) = lookedAt l k
+entered l (look k) = seenAt l (lookedAt l k)
 
 -- the outcomes of a list of calls, by the ledger
 abbrev pub outcomesAt : Ledger → List Call → List Outcome

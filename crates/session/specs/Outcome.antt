@@ -27,6 +27,6 @@ pub data Outcome : Type 0 where
   refused : ℕ → Outcome
 
 -- the outcome of a look
-abbrev pub looked : Numbered Sight → Outcome
-looked (causes.accepted sight) = seen sight
-looked (causes.refused cause) = refused cause
+abbrev pub lookOutcome : Numbered Sight → Outcome
+lookOutcome (causes.accepted sight) = seen sight
+lookOutcome (causes.refused cause) = refused cause

@@ -26,7 +26,7 @@ use Rattle.session.specs.declared.Answer.the-variants.{Accepted, Coloure
 use Rattle.session.specs.declared.Session.{Session}
 use Rattle.session.specs.declared.Served.{Served}
 use Rattle.session.specs.Call.{Call, open-tables, open-light, set-standard, set-tolerance, trial, report, look}
-use Rattle.session.specs.Outcome.{VerdictCounts, Outcome, accepted, coloured, tried, counted, refused, looked}
+use Rattle.session.specs.Outcome.{VerdictCounts, Outcome, accepted, coloured, tried, counted, refused, lookOutcome}
 use Rattle.session.specs.CallChecks.{standardChecks}
 
 -- what a call answers, in the paper's numbers and values
@@ -38,7 +38,7 @@ outcomeOf Accepted = accepted
 outcomeOf (Coloured colour) = coloured colour
 outcomeOf (Tried t) = tried (trialOutcome t)
 outcomeOf (Counted r) = counted (record { counts = countsOf (r .tallies) })
-outcomeOf (Seen answer) = looked (seenAnswer answer)
+outcomeOf (Seen answer) = lookOutcome (seenAnswer answer)
 outcomeOf (Refused cause) = refused (causeNumber cause)
 
 -- the session that a call leaves, and its outcome
@@ -83,14 +83,14 @@ standingOf s = record { opened = s .opened; standard = s .standard; tolerance = 
 abbrev pub withTallies : Session → Tallies → Session
 withTallies s tallies = record { conditions = s .conditions; opened = s .opened; standard = s .standard; tolerance = s .tolerance; tallies = tallies }
 
--- "Returns colour, E in the tolerance's space, and the verdict. .. Its tally rises by 1."
+-- "Its tally rises by 1.": of a trial that returns a verdict, the verdict's
 abbrev pub countedBy : Session → Numbered TrialOutcome → Reply
 countedBy s (causes.accepted t) = record { session = withTallies s (talliedBy (s .tallies) (t .verdict)); outcome = tried t }
 countedBy s (causes.refused cause) = record { session = s; outcome = refused cause }
 
 -- "the session itself doesn't move", whatever a look answers
 abbrev pub seenBy : Session → Numbered Sight → Reply
-seenBy s answer = record { session = s; outcome = looked answer }
+seenBy s answer = record { session = s; outcome = lookOutcome answer }
 
 abbrev pub served : Session → Call → Reply
 served s (open-tables t) = unless (firstOf (tableChecks t)) (refusedBy s) (openedBy s (conditionsOf t))

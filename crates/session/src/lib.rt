@@ -196,7 +196,7 @@ impl Session {
         self.with_tolerance(rules::tolerance_of(space, amount))
     }
 
-    // What stands for a trial.
+    // What the session holds beside its conditions.
     fn standing(self) -> Standing
         ensures { λ r. ⌜ r ≡ standingOf self ⌝ }
     {

@@ -37,12 +37,12 @@ triedAnswer (Refused cause) = refusal cause
 abbrev pub conditionsBy : List ℕ → List ℕ → List ℕ → WhitePoint → Conditions
 conditionsBy x y z white = record { x = x; y = y; z = z; white = white }
 
--- "Returns colour, E in the tolerance's space, and the verdict."
+-- what a judgement answers; where there is nothing to judge by, the cause that the checks would give
 abbrev pub judgedAs : Colour → Judged → Numbered TrialOutcome
 judgedAs colour Without = refusal NoTolerance
 judgedAs colour (By e verdict) = accepted (record { colour = colour; e = amountOf e; verdict = verdict })
 
--- a trial of these readings
+-- "Trial (spectrum): 6, 7, 8, 10, 1, 2. Returns colour, E in the tolerance's space, and the verdict."
 unfoldable pub triedBy : Conditions → Standing → List ℕ → Numbered TrialOutcome
 triedBy c s readings =
     unless (firstOf (trialChecks (s .opened) (hasStandard (s .standard)) (hasTolerance (s .tolerance)) (tallySum (s .tallies)) readings)) refusal
