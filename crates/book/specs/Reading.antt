@@ -5,7 +5,7 @@ use mathlib.Core.List.{List, [], _∷_}
 use lib.ListN.{length}
 use lib.Dec.{eqb}
 use Rattle.causes.specs.declared.Cause.the-variants.{ShortTable, NotABook, NoSuchShade}
-use Rattle.causes.specs.Causes.{causeNumber, Numbered, accepted, refused}
+use Rattle.causes.specs.Causes.{Numbered, accepted, refusal}
 use Rattle.causes.specs.Checks.{Check, check, firstOf, unless, numbered}
 use Rattle.book.specs.Book.{numbersOf, isBook, isIn, shadeOf}
 use Rattle.book.specs.declared.Found.{Found}
@@ -14,7 +14,7 @@ use Rattle.book.specs.declared.Found.the-variants.{Read, Refused}
 -- what a read answers, in the paper's numbers
 abbrev pub readAnswer : Found → Numbered ℕ
 readAnswer Read = accepted 0
-readAnswer (Refused cause) = refused (causeNumber cause)
+readAnswer (Refused cause) = refusal cause
 
 -- "Read one shade into 81 places: 1, 11, 12."
 unfoldable pub readChecks : ℕ → List ℕ → ℕ → ℕ → List Check

@@ -5,7 +5,7 @@ use mathlib.Core.List.{List, [], _∷_, _++_}
 use lib.ListN.{length, drop}
 use lib.Dec.{ltb, eqb}
 use Rattle.causes.specs.declared.Cause.the-variants.{ShortTable, OverBright, TooManyShades, OutOfOrder, ShortBuffer}
-use Rattle.causes.specs.Causes.{causeNumber, Numbered, accepted, refused}
+use Rattle.causes.specs.Causes.{Numbered, accepted, refusal}
 use Rattle.causes.specs.Checks.{Check, check, firstOf, unless, numbered}
 use Rattle.cie.specs.Scales.{anyAbove, readingLimit}
 use Rattle.book.specs.Book.{mostShades, total, rising, bookOf}
@@ -15,7 +15,7 @@ use Rattle.book_writer.specs.declared.Written.the-variants.{Total, Refus
 -- what a write answers, in the paper's numbers
 abbrev pub writeAnswer : Written → Numbered ℕ
 writeAnswer (Total n) = accepted n
-writeAnswer (Refused cause) = refused (causeNumber cause)
+writeAnswer (Refused cause) = refusal cause
 
 -- "Write (numbers, spectra, buffer): 1, 13, 14, 2, 15."
 unfoldable pub writeChecks : ℕ → List ℕ → List ℕ → ℕ → List Check

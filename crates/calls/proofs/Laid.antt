@@ -5,6 +5,9 @@ use Prim.Native.Nat.{ℕ}
 use native.Mathlib.Omega.{arith}
 use lib.ListN.{length, replicate, length-append, length-replicate}
 use lib.Seq.{length-take-le}
+use Rattle.causes.specs.declared.Cause.{Cause}
+use Rattle.causes.specs.Causes as causes
+use Rattle.causes.specs.Causes.{causeNumber}
 use Rattle.cie.specs.declared.Chromaticity.{Chromaticity}
 use Rattle.cie.specs.declared.Chromaticity.the-variants.{None, At}
 use Rattle.cie.specs.declared.Colour.{Colour}
@@ -12,15 +15,16 @@ use Rattle.endian.specs.Bytes.{twos}
 use Rattle.trials.specs.declared.TrialAnswer.{TrialAnswer}
 use Rattle.trials.specs.Tried.{amountOf, trialOutcome}
 use Rattle.looks.specs.declared.Seen.{Seen}
+use Rattle.looks.specs.declared.Seen.the-variants as looks
 use Rattle.looks.specs.declared.Seen.the-variants.{Previewed}
 use Rattle.looks.specs.Look.{previewed}
 use Rattle.looks.specs.Looked.{seenAnswer}
 use Rattle.session.specs.declared.Answer.{Answer}
-use Rattle.session.specs.declared.Answer.the-variants.{Accepted, Coloured, Tried, Counted}
+use Rattle.session.specs.declared.Answer.the-variants.{Accepted, Coloured, Tried, Counted, Refused}
 use Rattle.session.specs.declared.ReportAnswer.{ReportAnswer}
-use Rattle.session.specs.Outcome.{Outcome, accepted, coloured, tried, counted, seen, refused, lookOutcome}
+use Rattle.session.specs.Outcome.{Outcome, accepted, coloured, tried, counted, seen, refused}
 use Rattle.session.specs.Served.{outcomeOf}
-use Rattle.calls.specs.Records.{answerWords, chromaticityWords, colourWords, spaceWord, verdictWord, trialWords, padded, answerRecord}
+use Rattle.calls.specs.Records.{answerWords, chromaticityWords, colourWords, spaceWord, verdictWord, trialWords, padded, refusedRecord, answerRecord}
 
 -- how long an answer is
 length-padded : (words : List ℕ) → length (padded words) ≡ answerWords
@@ -34,7 +38,8 @@ length-answer accepted = refl
 length-answer (coloured colour) = length-padded (1 ∷ colourWords colour)
 length-answer (tried t) = length-padded (2 ∷ trialWords t)
 length-answer (counted r) = refl
-length-answer (seen (previewed t)) = length-padded (5 ∷ trialWords t)
+length-answer (seen (causes.accepted (previewed t))) = length-padded (5 ∷ trialWords t)
+length-answer (seen (causes.refused cause)) = refl
 length-answer (refused cause) = refl
 
 -- the words of a colour around those of its chromaticity, and three words more
@@ -67,9 +72,8 @@ pub trial-laid : (kind : ℕ) (t : TrialAnswer) {a b v : ℕ} {r : List ℕ}
     → r ≡ padded (kind ∷ (colourWords (t .colour) ++ (a ∷ b ∷ v ∷ []))) → r ≡ padded (kind ∷ trialWords (trialOutcome t))
 trial-laid kind t p u k q = q ∙ λ i. padded (kind ∷ (colourWords (t .colour) ++ (p i ∷ u i ∷ k i ∷ [])))
 
-pub refused-laid : {n cause : ℕ} {r : List ℕ} → n ≡ cause → r ≡ padded (4 ∷ n ∷ 0 ∷ 0 ∷ []) → r ≡ answerRecord (refused cause)
-unfolding answerRecord
-refused-laid k q = q ∙ ap (λ (n : ℕ). padded (4 ∷ n ∷ [])) k
+pub refused-laid : {n cause : ℕ} {r : List ℕ} → n ≡ cause → r ≡ padded (4 ∷ n ∷ 0 ∷ 0 ∷ []) → r ≡ refusedRecord cause
+refused-laid k q = q ∙ ap refusedRecord k
 
 -- the words that the code makes of each answer
 module _ {answer : Answer} {r : List ℕ} where
@@ -91,8 +95,16 @@ module _ {answer : Answer} {r : List ℕ} where
   unfolding answerRecord
   laid-counted e q = rw e q
 
--- and of what a look shows
-pub laid-previewed : {seen : Seen} {r : List ℕ} {t : TrialAnswer} → seen ≡ Previewed t → r ≡ padded (5 ∷ trialWords (trialOutcome t))
-    → r ≡ answerRecord (lookOutcome (seenAnswer seen))
-unfolding answerRecord
-laid-previewed e q = rw e q
+  pub laid-refused : {cause : Cause} → answer ≡ Refused cause → r ≡ refusedRecord (causeNumber cause) → r ≡ answerRecord (outcomeOf answer)
+  unfolding answerRecord
+  laid-refused e q = rw e q
+
+-- and of a look's
+module _ {answer : Seen} {r : List ℕ} where
+  pub laid-previewed : {t : TrialAnswer} → answer ≡ Previewed t → r ≡ padded (5 ∷ trialWords (trialOutcome t)) → r ≡ answerRecord (seen (seenAnswer answer))
+  unfolding answerRecord
+  laid-previewed e q = rw e q
+
+  pub laid-unseen : {cause : Cause} → answer ≡ looks.Refused cause → r ≡ refusedRecord (causeNumber cause) → r ≡ answerRecord (seen (seenAnswer answer))
+  unfolding answerRecord
+  laid-unseen e q = rw e q

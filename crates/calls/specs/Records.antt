@@ -27,6 +27,7 @@ use mathlib.Core.List.{List, [], _∷_, _++_}
 use Prim.Native.Nat.{ℕ, zero, suc, _+_, _-_, _/_, _≤_}
 use lib.Dec.{leb, eqb}
 use lib.ListN.{length, getD, take, drop, replicate}
+use Rattle.causes.specs.Causes as causes
 use Rattle.endian.specs.Bytes.{twos}
 use Rattle.cie.specs.declared.Chromaticity.{Chromaticity}
 use Rattle.cie.specs.declared.Chromaticity.the-variants.{None, At}
@@ -124,13 +125,17 @@ padded words = take answerWords (words ++ replicate answerWords 0)
 abbrev pub trialWords : TrialOutcome → List ℕ
 trialWords t = colourWords (t .colour) ++ (spaceWord (t .e .space) ∷ t .e .units ∷ verdictWord (t .verdict) ∷ [])
 
+abbrev pub refusedRecord : ℕ → List ℕ
+refusedRecord cause = padded (4 ∷ cause ∷ [])
+
 unfoldable pub answerRecord : Outcome → List ℕ
 answerRecord accepted = padded (0 ∷ [])
 answerRecord (coloured colour) = padded (1 ∷ colourWords colour)
 answerRecord (tried t) = padded (2 ∷ trialWords t)
 answerRecord (counted r) = padded (3 ∷ r .counts .passed ∷ r .counts .failed ∷ r .counts .line ∷ [])
-answerRecord (seen (previewed t)) = padded (5 ∷ trialWords t)
-answerRecord (refused cause) = padded (4 ∷ cause ∷ [])
+answerRecord (seen (causes.accepted (previewed t))) = padded (5 ∷ trialWords t)
+answerRecord (seen (causes.refused cause)) = refusedRecord cause
+answerRecord (refused cause) = refusedRecord cause
 
 -- the answers of some outcomes, one after the other
 unfoldable pub answerRecords : List Outcome → List ℕ

@@ -4,7 +4,7 @@ use Prim.Native.Nat.{ℕ, _*_}
 use lib.Dec.{ltb}
 use lib.ListN.{length, drop}
 use Rattle.causes.specs.declared.Cause.the-variants.{ShortBuffer}
-use Rattle.causes.specs.Causes.{causeNumber, Numbered, accepted, refused}
+use Rattle.causes.specs.Causes.{Numbered, accepted, refusal}
 use Rattle.causes.specs.Checks.{Check, check, firstOf, unless, numbered}
 use Rattle.session.specs.Call.{Call}
 use Rattle.session.specs.Ledger.{emptyLedger, outcomesAt}
@@ -23,7 +23,7 @@ runChecks records room = check (ltb room (answerWords * callCount records)) Shor
 -- what a run answers, in the paper's numbers
 abbrev pub runAnswer : Ran → Numbered ℕ
 runAnswer (Answered n) = accepted n
-runAnswer (Refused cause) = refused (causeNumber cause)
+runAnswer (Refused cause) = refusal cause
 
 -- how many calls were answered, or the cause
 unfoldable pub ran : List ℕ → ℕ → Numbered ℕ

@@ -7,9 +7,9 @@ ghost use lib.Seq.{sets};
 ghost use Rattle.causes.specs.Causes.{causeNumber};
 ghost use Rattle.trials.specs.Tried.{amountOf, trialOutcome};
 ghost use Rattle.looks.specs.Looked.{seenAnswer};
-ghost use Rattle.session.specs.Outcome.{refused, lookOutcome};
+ghost use Rattle.session.specs.Outcome.{seen};
 ghost use Rattle.session.specs.Served.{outcomeOf};
-ghost use Rattle.calls.specs.Records.{answerWords, chromaticityWords, spaceWord, verdictWord, colourWords, trialWords, padded, answerRecord};
+ghost use Rattle.calls.specs.Records.{answerWords, chromaticityWords, spaceWord, verdictWord, colourWords, trialWords, padded, refusedRecord, answerRecord};
 use causes::Cause;
 use cie::Chromaticity;
 use cie::Colour;
@@ -105,15 +105,15 @@ fn short_words(kind: u32, a: u32, b: u32, c: u32) -> [u32; 32]
 }
 
 fn refused_words(cause: Cause) -> [u32; 32]
-    ensures { λ r. ⌜ r ≡ answerRecord (refused (causeNumber cause)) ⌝ }
+    ensures { λ r. ⌜ r ≡ refusedRecord (causeNumber cause) ⌝ }
 {
     short_words(4, causes::number(cause), 0, 0)
 }
 
-fn seen_words(seen: Seen) -> [u32; 32]
-    ensures { λ r. ⌜ r ≡ answerRecord (lookOutcome (seenAnswer seen)) ⌝ }
+fn seen_words(answer: Seen) -> [u32; 32]
+    ensures { λ r. ⌜ r ≡ answerRecord (seen (seenAnswer answer)) ⌝ }
 {
-    match seen {
+    match answer {
         Seen::Previewed(t) => trial_words(5, t),
         Seen::Refused(cause) => refused_words(cause),
     }

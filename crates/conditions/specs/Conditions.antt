@@ -4,7 +4,7 @@ use Prim.Native.Nat.{ℕ, _≤_}
 use lib.ListN.{replicate}
 use Rattle.causes.specs.declared.Checked.{Checked}
 use Rattle.causes.specs.declared.Checked.the-variants.{Clear, Because}
-use Rattle.causes.specs.Causes.{causeNumber, Numbered, accepted, refused}
+use Rattle.causes.specs.Causes.{Numbered, accepted, refused, refusal}
 use Rattle.causes.specs.Checks.{firstOf, numbered}
 use Rattle.cie.specs.Scales.{rows, whiteReading}
 use Rattle.cie.specs.Sums.{Tables, whiteOf, White}
@@ -38,7 +38,7 @@ noConditions =
 -- what preparing answers, in the paper's numbers: the conditions, or the number of the cause that stands beside them
 abbrev pub checkedAnswer : Checked → Conditions → Numbered Conditions
 checkedAnswer Clear c = accepted c
-checkedAnswer (Because cause) c = refused (causeNumber cause)
+checkedAnswer (Because cause) c = refusal cause
 
 abbrev pub prepareAnswer : Prepared → Numbered Conditions
 prepareAnswer p = checkedAnswer (p .checked) (p .conditions)

@@ -3,7 +3,7 @@ use mathlib.Core.List.{List}
 use Prim.Native.Nat.{ℕ}
 use Rattle.causes.specs.declared.Cause.{Cause}
 use Rattle.causes.specs.declared.Cause.the-variants.{ShortTable}
-use Rattle.causes.specs.Causes.{causeNumber, Numbered, accepted, refused}
+use Rattle.causes.specs.Causes.{Numbered, accepted, refusal}
 use Rattle.causes.specs.Checks.{firstOf, numbered}
 use Rattle.cie.specs.declared.Sums.{Sums}
 use Rattle.cie.specs.declared.Colour.{Colour}
@@ -17,7 +17,7 @@ use Rattle.conditions.specs.Checks.{spectrumChecks}
 -- what measuring answers, in the paper's numbers: the sums, or the number of the cause
 abbrev pub measureAnswer : Measured → Numbered Sums
 measureAnswer (Whole sums) = accepted sums
-measureAnswer (Refused cause) = refused (causeNumber cause)
+measureAnswer (Refused cause) = refusal cause
 
 -- the sums by weights x, y, z, or the cause against readings under a limit
 unfoldable pub measuredBy : ℕ → List ℕ → List ℕ → List ℕ → List ℕ → Numbered Sums

@@ -1,6 +1,6 @@
 // From tables and readings to sums: conditions are tables that pass their checks, prepared once; a spectrum is measured under them.
 ghost use mathlib.Core.Path.{_≡_};
-ghost use Rattle.causes.specs.Causes.{causeNumber, refused};
+ghost use Rattle.causes.specs.Causes.{refusal};
 ghost use Rattle.cie.specs.Sums.{tablesOf};
 ghost use Rattle.conditions.specs.Conditions.{noConditions, preparedOf, preparedLight, Sound, Prepares};
 use causes::Cause;
@@ -47,7 +47,7 @@ pub fn none() -> Conditions
 }
 
 fn refused(cause: Cause) -> Prepared
-    ensures { λ r. ⌜ Prepares (refused (causeNumber cause)) r ⌝ }
+    ensures { λ r. ⌜ Prepares (refusal cause) r ⌝ }
 {
     let conditions = none();
     Prepared {

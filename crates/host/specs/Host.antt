@@ -6,7 +6,7 @@ use lib.ListN.{length, drop}
 use lib.IntN.{pos}
 use lib.Dec.{ltb, eqb}
 use Rattle.causes.specs.declared.Cause.the-variants.{ShortTable, OverBright, ShortBuffer, NoSuchLight}
-use Rattle.causes.specs.Causes.{causeNumber, Numbered, accepted, refused}
+use Rattle.causes.specs.Causes.{causeNumber, Numbered, accepted, refusal}
 use Rattle.causes.specs.Checks.{Check, check, firstOf, unless, numbered}
 use Rattle.cie.specs.declared.Colour.{Colour}
 use Rattle.cie.specs.Scales.{rows, readingLimit, anyAbove}
@@ -48,7 +48,7 @@ lightColour light readings = colourAt (lightTables light) readings
 -- what is found before the buffer is looked at, in the paper's numbers: the colour, or the number of the cause
 abbrev pub colouredAnswer : Coloured → Numbered Colour
 colouredAnswer (Whole colour) = accepted colour
-colouredAnswer (Refused cause) = refused (causeNumber cause)
+colouredAnswer (Refused cause) = refusal cause
 
 unfoldable pub colouredOf : ℕ → List ℕ → Numbered Colour
 colouredOf light bytes = numbered (firstOf (colourChecks light bytes)) (lightColour light (hostReadings bytes))

@@ -7,7 +7,7 @@ use causes::Cause;
 use colour::white::WhitePoint;
 use trials::Standing;
 use trials::TrialAnswer;
-use trials::Tried;
+use trials::TrialResult;
 
 // What a look answers.
 pub enum Seen {
@@ -27,8 +27,8 @@ pub fn preview<'a>(
     requires { ⌜ ValidStanding (conditionsBy (now x) (now y) (now z) white) standing ⌝ }
     ensures { λ r. ⌜ seenAnswer r ≡ lookedBy (conditionsBy (now (x .entry)) (now (y .entry)) (now (z .entry)) white) standing (preview (now (readings .entry))) ⌝ }
 {
-    match trials::worked_out(standing, white, readings, x, y, z) {
-        Tried::Judged(trial) => Seen::Previewed(trial),
-        Tried::Refused(cause) => Seen::Refused(cause),
+    match trials::tried(standing, white, readings, x, y, z) {
+        TrialResult::Answered(trial) => Seen::Previewed(trial),
+        TrialResult::Refused(cause) => Seen::Refused(cause),
     }
 }

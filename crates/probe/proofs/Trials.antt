@@ -3,13 +3,11 @@ use mathlib.Core.Path.{_≡_, refl, ap, _∙_}
 use mathlib.Core.List.{List}
 use Prim.Native.Nat.{ℕ, zero, suc, _-_, _<_}
 use native.Mathlib.Omega.{arith}
-use Rattle.causes.specs.Causes.{Numbered, accepted, refused}
 use Rattle.cie.specs.declared.Space.the-variants.{Cielab}
-use Rattle.looks.specs.Look.{Sight}
 use Rattle.session.specs.declared.Session.{Session}
 use Rattle.session.specs.declared.Served.{Served}
 use Rattle.session.specs.Call.{Call, open-light, set-standard, set-tolerance, trial, report}
-use Rattle.session.specs.Outcome.{Outcome, lookOutcome}
+use Rattle.session.specs.Outcome.{Outcome}
 use Rattle.session.specs.Served.{Reply, served, freshSession}
 use Rattle.session.specs.Meets.{Meets}
 use Rattle.probe.specs.Probe.{after, sessionFor, afterTrials, passedIn, passCount}
@@ -45,8 +43,3 @@ pub counted : (light : ℕ) (standard readings : List ℕ) (amount count : ℕ) 
 unfolding passCount
 counted light standard readings amount count e e₁ e₂ =
     ap passedIn (e₂ ∙ ap (λ (x : Session). served x report .outcome) (e₁ ∙ ap (λ (x : Session). afterTrials x readings count) e))
-
--- a look counts no passes
-pub look-counts : (a : Numbered Sight) → 0 ≡ passedIn (lookOutcome a)
-look-counts (accepted sight) = refl
-look-counts (refused cause) = refl

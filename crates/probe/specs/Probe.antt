@@ -38,7 +38,7 @@ passedIn accepted = 0
 passedIn (coloured colour) = 0
 passedIn (tried t) = 0
 passedIn (counted r) = r .counts .passed
-passedIn (seen sight) = 0
+passedIn (seen answer) = 0
 passedIn (refused cause) = 0
 
 -- the passes among a number of trials of one spectrum, as the report after them counts

@@ -6,7 +6,7 @@ use Rattle.causes.specs.Causes.{Numbered, accepted, refused, mapped}
 use Rattle.trials.specs.Outcome.{TrialOutcome}
 use Rattle.looks.specs.Look.{Look, preview, previewed}
 use Rattle.looks.specs.Looked.{lookedBy}
-use Rattle.session.specs.Outcome.{lookOutcome}
+use Rattle.session.specs.Outcome.{seen}
 use Rattle.session.specs.Ledger.{Ledger, triedAt, lookedAt}
 use Rattle.session.specs.Served.{standingOf}
 use Rattle.session.specs.Stands.{sessionOf}
@@ -19,9 +19,9 @@ pub looking : (l : Ledger) (k : Look) → lookedBy (sessionOf l .conditions) (st
 looking l (preview readings) = ap (mapped previewed) (tried-same l readings)
 
 preview-told : (l : Ledger) (readings : List ℕ) (a : Numbered TrialOutcome) → Owed l readings a →
-    LookTold l (preview readings) (lookOutcome (mapped previewed a))
+    LookTold l (preview readings) (seen (mapped previewed a))
 preview-told l readings (accepted t) h = h
 preview-told l readings (refused cause) h = tt
 
-pub look-told : (l : Ledger) (k : Look) → Kept l → LookTold l k (lookOutcome (lookedAt l k))
+pub look-told : (l : Ledger) (k : Look) → Kept l → LookTold l k (seen (lookedAt l k))
 look-told l (preview readings) k = preview-told l readings (triedAt l readings) (tried-told l readings k)

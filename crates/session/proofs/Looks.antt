@@ -9,13 +9,13 @@ use Rattle.trials.specs.Tried.{triedBy}
 use Rattle.looks.specs.Look.{Look, previewed}
 use Rattle.session.specs.declared.Session.{Session}
 use Rattle.session.specs.Call.{Call, look}
-use Rattle.session.specs.Outcome.{Outcome, lookOutcome}
+use Rattle.session.specs.Outcome.{Outcome, seen}
 use Rattle.session.specs.Served.{served, standingOf, countedBy}
 use Rattle.session.specs.Claim.{outcomesFrom}
 use Rattle.session.specs.Looks.{asPreview, PreviewIsTrial, without, LookLeftOut}
 
 -- whatever the working out found
-shown-alike : (s : Session) (a : Numbered TrialOutcome) → lookOutcome (mapped previewed a) ≡ asPreview (countedBy s a .outcome)
+shown-alike : (s : Session) (a : Numbered TrialOutcome) → seen (mapped previewed a) ≡ asPreview (countedBy s a .outcome)
 shown-alike s (accepted t) = refl
 shown-alike s (refused cause) = refl
 

@@ -4,6 +4,7 @@ use mathlib.Core.Path.{_≡_}
 use mathlib.Core.Bool.{Bool, true, false, cond}
 use mathlib.Core.List.{List, [], _∷_}
 use Prim.Native.Nat.{ℕ, _+_}
+use Rattle.causes.specs.Causes as causes
 use Rattle.cie.specs.declared.Verdict.{Verdict}
 use Rattle.cie.specs.declared.Verdict.the-variants.{Pass, Fail, OnTheLine}
 use Rattle.cie.specs.Sums.{Tables, sumsOf, whiteOf}
@@ -54,7 +55,7 @@ TrialTold l readings accepted = ⊥
 TrialTold l readings (coloured colour) = ⊥
 TrialTold l readings (tried t) = VerdictAt l readings (t .verdict)
 TrialTold l readings (counted r) = ⊥
-TrialTold l readings (seen sight) = ⊥
+TrialTold l readings (seen answer) = ⊥
 TrialTold l readings (refused cause) = Unit
 
 -- Document 02: "the mission's promise about verdicts covers what they show"
@@ -66,8 +67,9 @@ LookTold l k accepted = ⊥
 LookTold l k (coloured colour) = ⊥
 LookTold l k (tried t) = ⊥
 LookTold l k (counted r) = ⊥
-LookTold l k (seen sight) = SightTold l k sight
-LookTold l k (refused cause) = Unit
+LookTold l k (seen (causes.accepted sight)) = SightTold l k sight
+LookTold l k (seen (causes.refused cause)) = Unit
+LookTold l k (refused cause) = ⊥
 
 -- "every report's tallies are exact": the verdicts that the trials before it in the list were given, counted over the list itself
 abbrev pub isPass : Verdict → Bool
@@ -90,7 +92,7 @@ shows p accepted = false
 shows p (coloured colour) = false
 shows p (tried t) = p (t .verdict)
 shows p (counted r) = false
-shows p (seen sight) = false
+shows p (seen answer) = false
 shows p (refused cause) = false
 
 -- whether a call is a trial that was given such a verdict: no other call is counted, whatever it shows
@@ -115,7 +117,7 @@ ReportTold before accepted = ⊥
 ReportTold before (coloured colour) = ⊥
 ReportTold before (tried t) = ⊥
 ReportTold before (counted r) = r .counts ≡ verdictsIn before
-ReportTold before (seen sight) = ⊥
+ReportTold before (seen answer) = ⊥
 ReportTold before (refused cause) = ⊥
 
 -- no call but a trial or a look shows a verdict
@@ -124,7 +126,7 @@ NoVerdict accepted = Unit
 NoVerdict (coloured colour) = Unit
 NoVerdict (tried t) = ⊥
 NoVerdict (counted r) = Unit
-NoVerdict (seen sight) = ⊥
+NoVerdict (seen answer) = ⊥
 NoVerdict (refused cause) = Unit
 
 abbrev pub CallTold : List Event → Ledger → Call → Outcome → Type 0

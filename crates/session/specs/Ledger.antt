@@ -23,7 +23,7 @@ use Rattle.trials.specs.Outcome.{Amount, TrialOutcome}
 use Rattle.trials.specs.Checks.{trialChecks}
 use Rattle.looks.specs.Look.{Look, preview, Sight, previewed}
 use Rattle.session.specs.Call.{Call, open-tables, open-light, set-standard, set-tolerance, trial, report, look}
-use Rattle.session.specs.Outcome.{VerdictCounts, Outcome, accepted, coloured, tried, counted, refused, lookOutcome}
+use Rattle.session.specs.Outcome.{VerdictCounts, Outcome, accepted, coloured, tried, counted, seen, refused}
 use Rattle.session.specs.CallChecks.{standardChecks}
 
 pub data Held (A : Type 0) : Type 0 where
@@ -114,9 +114,9 @@ countedAt l (causes.refused cause) = record { ledger = l; outcome = refused caus
 abbrev pub lookedAt : Ledger → Look → Numbered Sight
 lookedAt l (preview readings) = mapped previewed (triedAt l readings)
 
--- "and adds nothing": whatever a look shows, the ledger stays as it is
+-- "and adds nothing": whatever a look answers, the ledger stays as it is
 abbrev pub seenAt : Ledger → Numbered Sight → Entry
-seenAt l answer = record { ledger = l; outcome = lookOutcome answer }
+seenAt l answer = record { ledger = l; outcome = seen answer }
 
 -- "A report changes nothing and answers the counts."
 abbrev pub entered : Ledger → Call → Entry

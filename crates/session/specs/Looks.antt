@@ -3,6 +3,7 @@ use mathlib.Core.Path.{_≡_}
 use mathlib.Core.List.{List, _∷_, _++_}
 use Prim.Native.Nat.{ℕ, suc}
 use lib.ListN.{length, take, drop}
+use Rattle.causes.specs.Causes as causes
 use Rattle.looks.specs.Look.{Look, preview, previewed}
 use Rattle.session.specs.declared.Session.{Session}
 use Rattle.session.specs.Call.{Call, trial, look}
@@ -10,14 +11,14 @@ use Rattle.session.specs.Outcome.{Outcome, accepted, coloured, tried, co
 use Rattle.session.specs.Served.{served}
 use Rattle.session.specs.Claim.{outcomesFrom}
 
--- a trial's outcome as a preview gives it: what it answers is shown, and a cause is the same cause
+-- a trial's outcome as a preview gives it: the same answer, or the same cause
 abbrev pub asPreview : Outcome → Outcome
 asPreview accepted = accepted
 asPreview (coloured colour) = coloured colour
-asPreview (tried t) = seen (previewed t)
+asPreview (tried t) = seen (causes.accepted (previewed t))
 asPreview (counted r) = counted r
-asPreview (seen sight) = seen sight
-asPreview (refused cause) = refused cause
+asPreview (seen answer) = seen answer
+asPreview (refused cause) = seen (causes.refused cause)
 
 -- "Its colour, E, verdict or cause equal those of the trial done on a copy of the session, and the session itself doesn't move."
 pub record PreviewIsTrial : Type 0 where

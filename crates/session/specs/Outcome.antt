@@ -1,7 +1,6 @@
 -- What the ledger counts and answers, beside what a trial and a look show: words of the paper, and no type that the program decides by.
 -- Assumes nothing.
 use Prim.Native.Nat.{ℕ}
-use Rattle.causes.specs.Causes as causes
 use Rattle.causes.specs.Causes.{Numbered}
 use Rattle.cie.specs.declared.Colour.{Colour}
 use Rattle.trials.specs.Outcome.{TrialOutcome}
@@ -17,16 +16,12 @@ pub record VerdictCounts : Type 0 where
 pub record ReportOutcome : Type 0 where
   pub counts : VerdictCounts
 
--- "when refused, the cause; otherwise a standard's colour, a trial's colour, E and verdict, or a report's tallies"; and what a look shows
+-- "when refused, the cause; otherwise a standard's colour, a trial's colour, E and verdict, or a report's tallies"; and what a look
+-- answers, which is its own: what it shows, or its cause
 pub data Outcome : Type 0 where
   accepted : Outcome
   coloured : Colour → Outcome
   tried : TrialOutcome → Outcome
   counted : ReportOutcome → Outcome
-  seen : Sight → Outcome
+  seen : Numbered Sight → Outcome
   refused : ℕ → Outcome
-
--- the outcome of a look
-abbrev pub lookOutcome : Numbered Sight → Outcome
-lookOutcome (causes.accepted sight) = seen sight
-lookOutcome (causes.refused cause) = refused cause

@@ -26,7 +26,7 @@ use Rattle.session.specs.declared.Answer.the-variants.{Accepted, Coloure
 use Rattle.session.specs.declared.Session.{Session}
 use Rattle.session.specs.declared.Served.{Served}
 use Rattle.session.specs.Call.{Call, open-tables, open-light, set-standard, set-tolerance, trial, report, look}
-use Rattle.session.specs.Outcome.{VerdictCounts, Outcome, accepted, coloured, tried, counted, refused, lookOutcome}
+use Rattle.session.specs.Outcome.{VerdictCounts, Outcome, accepted, coloured, tried, counted, seen, refused}
 use Rattle.session.specs.CallChecks.{standardChecks}
 
 -- what a call answers, in the paper's numbers and values
@@ -38,7 +38,7 @@ outcomeOf Accepted = accepted
 outcomeOf (Coloured colour) = coloured colour
 outcomeOf (Tried t) = tried (trialOutcome t)
 outcomeOf (Counted r) = counted (record { counts = countsOf (r .tallies) })
-outcomeOf (Seen answer) = lookOutcome (seenAnswer answer)
+outcomeOf (Seen answer) = seen (seenAnswer answer)
 outcomeOf (Refused cause) = refused (causeNumber cause)
 
 -- the session that a call leaves, and its outcome
@@ -90,7 +90,7 @@ countedBy s (causes.refused cause) = record { session = s; outcome = refused cau
 
 -- "the session itself doesn't move", whatever a look answers
 abbrev pub seenBy : Session → Numbered Sight → Reply
-seenBy s answer = record { session = s; outcome = lookOutcome answer }
+seenBy s answer = record { session = s; outcome = seen answer }
 
 abbrev pub served : Session → Call → Reply
 served s (open-tables t) = unless (firstOf (tableChecks t)) (refusedBy s) (openedBy s (conditionsOf t))

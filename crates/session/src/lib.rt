@@ -15,11 +15,11 @@ use looks::Seen;
 use rules::Standard;
 use rules::Tallies;
 use rules::Tolerance;
-use rules::standing;
+use rules::standing::tallied;
 use trials::FRAME_LIMIT;
 use trials::Standing;
 use trials::TrialAnswer;
-use trials::Tried;
+use trials::TrialResult;
 
 mod look;
 
@@ -218,7 +218,7 @@ impl Session {
     {
         let standing = self.standing();
         let white = self.conditions.white;
-        let tried = trials::worked_out(
+        let found = trials::tried(
             standing,
             white,
             readings,
@@ -226,13 +226,13 @@ impl Session {
             &self.conditions.y,
             &self.conditions.z,
         );
-        let trial = match tried {
-            Tried::Refused(cause) => return self.refused(cause),
-            Tried::Judged(trial) => trial,
+        let trial = match found {
+            TrialResult::Refused(cause) => return self.refused(cause),
+            TrialResult::Answered(trial) => trial,
         };
         let tallies = self.tallies;
         let verdict = trial.verdict;
-        self.tallies = standing::tallied(tallies, verdict);
+        self.tallies = tallied(tallies, verdict);
         Served {
             session: self,
             answer: Answer::Tried(trial),

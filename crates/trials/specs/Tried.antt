@@ -17,8 +17,8 @@ use Rattle.rules.specs.Standing.{sessionLimit}
 use Rattle.rules.specs.Rules.{hasTolerance, hasStandard, SizedStandard, spaceOf, unitsOf, judgedOf, tallySum}
 use Rattle.trials.specs.declared.Standing.{Standing}
 use Rattle.trials.specs.declared.TrialAnswer.{TrialAnswer}
-use Rattle.trials.specs.declared.Tried.{Tried}
-use Rattle.trials.specs.declared.Tried.the-variants.{Judged as Found, Refused}
+use Rattle.trials.specs.declared.TrialResult.{TrialResult}
+use Rattle.trials.specs.declared.TrialResult.the-variants.{Answered, Refused}
 use Rattle.trials.specs.Outcome.{Amount, TrialOutcome}
 use Rattle.trials.specs.Checks.{trialChecks}
 
@@ -29,15 +29,15 @@ amountOf e = record { space = spaceOf e; units = unitsOf e }
 abbrev pub trialOutcome : TrialAnswer → TrialOutcome
 trialOutcome t = record { colour = t .colour; e = amountOf (t .difference); verdict = t .verdict }
 
-abbrev pub triedAnswer : Tried → Numbered TrialOutcome
-triedAnswer (Found t) = accepted (trialOutcome t)
+abbrev pub triedAnswer : TrialResult → Numbered TrialOutcome
+triedAnswer (Answered t) = accepted (trialOutcome t)
 triedAnswer (Refused cause) = refusal cause
 
 -- conditions whose weights are lent
 abbrev pub conditionsBy : List ℕ → List ℕ → List ℕ → WhitePoint → Conditions
 conditionsBy x y z white = record { x = x; y = y; z = z; white = white }
 
--- what a judgement answers; where there is nothing to judge by, the cause that the checks would give
+-- what a judgement answers; past the checks there is a standard and a tolerance to judge by
 abbrev pub judgedAs : Colour → Judged → Numbered TrialOutcome
 judgedAs colour Without = refusal NoTolerance
 judgedAs colour (By e verdict) = accepted (record { colour = colour; e = amountOf e; verdict = verdict })

@@ -1,5 +1,5 @@
-// A trial worked out, apart from where a session lies: its weights are lent, and what stands beside them is small. A trial and a preview of one
-// are both worked out here.
+// A trial worked out, apart from where a session lies: it is lent the weights, is told what stands beside them, and is given no session. A trial
+// and a preview of one are both worked out here.
 ghost use mathlib.Core.Path.{_≡_};
 ghost use Rattle.trials.specs.Tried.{ValidStanding, conditionsBy, triedAnswer, triedBy};
 use causes::Cause;
@@ -16,7 +16,7 @@ use rules::Standard;
 use rules::Tallies;
 use rules::Tolerance;
 use rules::judging;
-use rules::standing;
+use rules::standing::stands;
 
 // The limit of the spectra that a session is given.
 pub const FRAME_LIMIT: u16 = READING_LIMIT;
@@ -37,39 +37,39 @@ pub struct TrialAnswer {
 }
 
 // A trial's answer, or the cause against it.
-pub enum Tried {
-    Judged(TrialAnswer),
+pub enum TrialResult {
+    Answered(TrialAnswer),
     Refused(Cause),
 }
 
 // What a trial of a spectrum finds.
-pub fn worked_out<'a>(
+pub fn tried<'a>(
     standing: Standing,
     white: WhitePoint,
     readings: &[u16],
     x: &'a [u64],
     y: &'a [u64],
     z: &'a [u64],
-) -> Tried
+) -> TrialResult
     requires { ⌜ ValidStanding (conditionsBy (now x) (now y) (now z) white) standing ⌝ }
     ensures { λ r. ⌜ triedAnswer r ≡ triedBy (conditionsBy (now (x .entry)) (now (y .entry)) (now (z .entry)) white) standing (now (readings .entry)) ⌝ }
 {
     let standard = standing.standard;
     let tolerance = standing.tolerance;
     let tallies = standing.tallies;
-    let stands = standing::stands(standing.opened, standard, tolerance, tallies);
-    if let Checked::Because(cause) = stands {
-        return Tried::Refused(cause);
+    let found = stands(standing.opened, standard, tolerance, tallies);
+    if let Checked::Because(cause) = found {
+        return TrialResult::Refused(cause);
     }
     let measured = measure::measure(readings, FRAME_LIMIT, x, y, z);
     let Measured::Whole(sums) = measured else {
-        return Tried::Refused(measure::cause_of(measured));
+        return TrialResult::Refused(measure::cause_of(measured));
     };
     let colour = colour::colour_of(sums, white);
     let Judged::By(e, verdict) = judging::judge(standard, tolerance, colour) else {
-        return Tried::Refused(Cause::NoTolerance);
+        return TrialResult::Refused(Cause::NoTolerance);
     };
-    Tried::Judged(TrialAnswer {
+    TrialResult::Answered(TrialAnswer {
         colour: colour,
         difference: e,
         verdict: verdict,

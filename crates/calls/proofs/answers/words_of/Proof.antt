@@ -4,7 +4,7 @@ use borrow.Author.Needs.{needs}
 use Rattle.session.specs.declared.Answer.{Answer}
 use Rattle.session.specs.Served.{outcomeOf}
 use Rattle.calls.specs.Records.{answerRecord}
-use Rattle.calls.proofs.Laid.{laid-accepted, laid-coloured, laid-tried, laid-counted}
+use Rattle.calls.proofs.Laid.{laid-accepted, laid-coloured, laid-tried, laid-counted, laid-refused}
 use Rattle.calls.proofs.answers.words_of.Statement.{statement}
 use Rattle.calls.proofs.answers.words_of.Tie as tie
 
@@ -24,7 +24,7 @@ returns-5 : tie.Need-returns-5
 returns-5 c = c .seen-words .ensures ∙ ap (λ (a : Answer). answerRecord (outcomeOf a)) (sym (c .before .before .answer4 .given .1))
 
 returns-6 : tie.Need-returns-6
-returns-6 c = c .refused-words .ensures ∙ ap (λ (a : Answer). answerRecord (outcomeOf a)) (sym (c .before .before .answer5 .given .1))
+returns-6 c = laid-refused (c .before .before .answer5 .given .1) (c .refused-words .ensures)
 
 pub words-of-spec : {M : Type 1} → statement M
 words-of-spec =

@@ -3,7 +3,7 @@ use mathlib.Core.Path.{sym, _∙_, ap}
 use denote.Ref.{now}
 use borrow.Author.Needs.{needs}
 use Rattle.rules.specs.declared.Tallies.{Tallies}
-use Rattle.trials.specs.declared.Tried.{Tried}
+use Rattle.trials.specs.declared.TrialResult.{TrialResult}
 use Rattle.trials.specs.Tried.{trialOutcome, triedAnswer}
 use Rattle.session.specs.Outcome.{tried}
 use Rattle.session.specs.Served.{withTallies, countedBy}
@@ -13,11 +13,11 @@ use Rattle.session.proofs.Session.trial.Statement.{statement}
 use Rattle.session.proofs.Session.trial.Tie as tie
 
 -- where the weights are lent: what was told to stand
-abbrev told : tie.After-worked-out-arg6 → tie.After-standing
+abbrev told : tie.After-tried-arg6 → tie.After-standing
 told c = c .before .before .before .before .before .before .before .before
 
-worked-out-requires : tie.Need-worked-out-requires
-worked-out-requires c κs =
+tried-requires : tie.Need-tried-requires
+tried-requires c κs =
     let t = told c in
     let s = t .before .before in
     valid-told (s .args .t1) (t .standing .ensures) (s .pre)
@@ -29,26 +29,26 @@ refused c =
     let s = t .before .before in
     meets _ _ _ (s .pre)
     (c .refused .ensures
-    ∙ ap (λ (r : Tried). countedBy (s .args .t1) (triedAnswer r)) (sym (c .before .before .tried .given .1))
-    ∙ trial-found (s .args .t1) (t .standing .ensures) (now (s .args .readings)) (found .worked-out .ensures))
+    ∙ ap (λ (r : TrialResult). countedBy (s .args .t1) (triedAnswer r)) (sym (c .before .before .found .given .1))
+    ∙ trial-found (s .args .t1) (t .standing .ensures) (now (s .args .readings)) (found .tried .ensures))
 
 judged : tie.Need-returns-2
 judged c =
-    let by = c .before .before .before .tried2 .given in
+    let by = c .before .before .before .found2 .given in
     let found = c .before .before .before .before .before in
     let t = told (found .before) in
     let s = t .before .before in
     meets _ _ _ (s .pre)
     (ap (λ (n : Tallies). record { session = withTallies (s .args .t1) n; outcome = tried (trialOutcome (by .0 .0)) }) (c .tallied .ensures)
-    ∙ ap (λ (r : Tried). countedBy (s .args .t1) (triedAnswer r)) (sym (by .1))
-    ∙ trial-found (s .args .t1) (t .standing .ensures) (now (s .args .readings)) (found .worked-out .ensures))
+    ∙ ap (λ (r : TrialResult). countedBy (s .args .t1) (triedAnswer r)) (sym (by .1))
+    ∙ trial-found (s .args .t1) (t .standing .ensures) (now (s .args .readings)) (found .tried .ensures))
 
 pub trial-spec : {M : Type 1} → statement M
 trial-spec =
     tie.close
     (tie.spec
     (λ c κs. search needs)
-    worked-out-requires
+    tried-requires
     (λ c. search needs)
     (λ c κs. search needs)
     refused

@@ -11,8 +11,8 @@ use Rattle.conditions.proofs.Measuring.{measured-ready, measured-sized}
 use Rattle.trials.specs.Checks.{frameLimit}
 use Rattle.trials.specs.Tried.{conditionsBy, judgedAs, triedBy}
 use Rattle.trials.proofs.Trying.{Stands, tried-fallen, tried-refused, tried-whole}
-use Rattle.trials.proofs.worked_out.Statement.{statement}
-use Rattle.trials.proofs.worked_out.Tie as tie
+use Rattle.trials.proofs.tried.Statement.{statement}
+use Rattle.trials.proofs.tried.Tie as tie
 
 -- where what must stand was asked
 abbrev start : tie.After-stands → tie.Start
@@ -25,7 +25,7 @@ fallen : tie.Need-returns
 fallen c =
     let found = c .before .before .before in
     let s = start found in
-    sym (tried-fallen (conditions s) (s .args .standing) (now (s .args .readings)) (sym (found .stands .ensures) ∙ c .before .stands2 .given .1))
+    sym (tried-fallen (conditions s) (s .args .standing) (now (s .args .readings)) (sym (found .stands .ensures) ∙ c .before .found .given .1))
 
 -- where the spectrum is measured, all stands
 abbrev begun : tie.After-measure → tie.Start
@@ -81,8 +81,8 @@ judged c =
     let j = c .before .before .before in
     sym (finds j ∙ ap (judgedAs (j .before .colour-of .result)) (c .before .e .given .1))
 
-pub worked-out-spec : {M : Type 1} → statement M
-worked-out-spec =
+pub tried-spec : {M : Type 1} → statement M
+tried-spec =
     tie.close
     (tie.spec
     (λ c κs. search needs)
