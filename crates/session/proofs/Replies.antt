@@ -21,9 +21,9 @@ use Rattle.conditions.specs.Measure.{measureAnswer, measuredBy}
 use Rattle.conditions.proofs.Answers.{prepared-because, prepared-clear}
 use Rattle.conditions.proofs.Measuring.{measured-refused, measured-whole}
 use Rattle.trials.specs.declared.Standing.{Standing}
-use Rattle.trials.specs.Outcome.{TrialOutcome}
+use Rattle.trials.specs.declared.TrialResult.{TrialResult}
 use Rattle.trials.specs.Checks.{frameLimit}
-use Rattle.trials.specs.Tried.{triedBy, ValidStanding}
+use Rattle.trials.specs.Tried.{triedAnswer, triedBy, ValidStanding}
 use Rattle.looks.specs.Look.{Look, Sight}
 use Rattle.looks.specs.Looked.{lookedBy}
 use Rattle.session.specs.declared.Session.{Session}
@@ -69,8 +69,12 @@ module _ (s : Session) {q : Standing} (stands : q ≡ standingOf s) where
   pub valid-told : Valid s → ValidStanding (s .conditions) q
   valid-told v = subst (ValidStanding (s .conditions)) (sym stands) (v .standing)
 
-  pub trial-found : (readings : List ℕ) {a : Numbered TrialOutcome} → a ≡ triedBy (s .conditions) q readings → countedBy s a ≡ served s (trial readings)
-  trial-found readings e = ap (countedBy s) (e ∙ ap (λ (x : Standing). triedBy (s .conditions) x readings) stands)
+  -- what a trial found, by the case that it is, and counted
+  pub trial-found : (readings : List ℕ) {found case : TrialResult} → found ≡ case → triedAnswer found ≡ triedBy (s .conditions) q readings →
+      countedBy s (triedAnswer case) ≡ served s (trial readings)
+  trial-found readings told e =
+      ap (λ (r : TrialResult). countedBy s (triedAnswer r)) (sym told)
+      ∙ ap (countedBy s) (e ∙ ap (λ (x : Standing). triedBy (s .conditions) x readings) stands)
 
   pub look-seen : (k : Look) {a : Numbered Sight} → a ≡ lookedBy (s .conditions) q k → seenBy s a ≡ served s (look k)
   look-seen k e = ap (seenBy s) (e ∙ ap (λ (x : Standing). lookedBy (s .conditions) x k) stands)

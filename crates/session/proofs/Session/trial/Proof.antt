@@ -1,12 +1,11 @@
 -- What the trial's working out found decides the reply: refused with its cause, or its verdict tallied. Assumes nothing.
-use mathlib.Core.Path.{sym, _∙_, ap}
+use mathlib.Core.Path.{_∙_, ap}
 use denote.Ref.{now}
 use borrow.Author.Needs.{needs}
 use Rattle.rules.specs.declared.Tallies.{Tallies}
-use Rattle.trials.specs.declared.TrialResult.{TrialResult}
-use Rattle.trials.specs.Tried.{trialOutcome, triedAnswer}
+use Rattle.trials.specs.Tried.{trialOutcome}
 use Rattle.session.specs.Outcome.{tried}
-use Rattle.session.specs.Served.{withTallies, countedBy}
+use Rattle.session.specs.Served.{withTallies}
 use Rattle.session.proofs.Valid.{meets}
 use Rattle.session.proofs.Replies.{valid-told, trial-found}
 use Rattle.session.proofs.Session.trial.Statement.{statement}
@@ -29,8 +28,7 @@ refused c =
     let s = t .before .before in
     meets _ _ _ (s .pre)
     (c .refused .ensures
-    ∙ ap (λ (r : TrialResult). countedBy (s .args .t1) (triedAnswer r)) (sym (c .before .before .found .given .1))
-    ∙ trial-found (s .args .t1) (t .standing .ensures) (now (s .args .readings)) (found .tried .ensures))
+    ∙ trial-found (s .args .t1) (t .standing .ensures) (now (s .args .readings)) (c .before .before .found .given .1) (found .tried .ensures))
 
 judged : tie.Need-returns-2
 judged c =
@@ -40,8 +38,7 @@ judged c =
     let s = t .before .before in
     meets _ _ _ (s .pre)
     (ap (λ (n : Tallies). record { session = withTallies (s .args .t1) n; outcome = tried (trialOutcome (by .0 .0)) }) (c .tallied .ensures)
-    ∙ ap (λ (r : TrialResult). countedBy (s .args .t1) (triedAnswer r)) (sym (by .1))
-    ∙ trial-found (s .args .t1) (t .standing .ensures) (now (s .args .readings)) (found .tried .ensures))
+    ∙ trial-found (s .args .t1) (t .standing .ensures) (now (s .args .readings)) (by .1) (found .tried .ensures))
 
 pub trial-spec : {M : Type 1} → statement M
 trial-spec =
