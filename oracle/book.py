@@ -1,14 +1,13 @@
 """The shade book: writing, the rules of a book, reading one shade."""
 
-from ledger import OVER_BRIGHT, READING_LIMIT, SHORT_TABLE, refuse_when
-from tables import LENGTH
+from ledger import OVER_BRIGHT, READING_LIMIT, SHORT_TABLE, refuse_when, spacing_check
+from tables import LENGTHS
 
 NOT_A_BOOK, NO_SUCH_SHADE, TOO_MANY_SHADES, OUT_OF_ORDER, SHORT_BUFFER = 11, 12, 13, 14, 15
 
 MAGIC = bytes.fromhex("53424B31")
 HEAD = 6
 ENTRY = 8
-BODY = 2 * LENGTH
 SHADE_LIMIT = 200
 
 
@@ -28,51 +27,60 @@ def rising_from_one(numbers):
     return all(low < high for low, high in zip([0, *numbers], numbers))
 
 
-def body_offset(count, place):
-    return HEAD + ENTRY * count + BODY * place
+def body_length(spacing):
+    return 2 * LENGTHS[spacing]
+
+
+def body_offset(spacing, count, place):
+    return HEAD + ENTRY * count + body_length(spacing) * place
+
+
+def total(spacing, count):
+    return body_offset(spacing, count, count)
 
 
 def book_bytes(shades):
-    """The bytes of (number, spectrum) pairs as a book, without any check."""
-    count = len(shades)
-    entries = [
-        put(number, 2) + put(BODY, 2) + put(body_offset(count, place), 4)
-        for place, (number, _) in enumerate(shades)
-    ]
-    bodies = [put(reading, 2) for _, spectrum in shades for reading in spectrum]
-    return b"".join([MAGIC, put(count, 2), *entries, *bodies])
+    """The bytes of (number, spectrum) pairs as a book, without any check: each body is as long as
+    its spectrum, and the bodies touch."""
+    entries, bodies, offset = [], [], HEAD + ENTRY * len(shades)
+    for number, spectrum in shades:
+        entries.append(put(number, 2) + put(2 * len(spectrum), 2) + put(offset, 4))
+        bodies += [put(reading, 2) for reading in spectrum]
+        offset += 2 * len(spectrum)
+    return b"".join([MAGIC, put(len(shades), 2), *entries, *bodies])
 
 
-def write(numbers, spectra, buffer):
+def write(spacing, numbers, spectra, buffer):
     """Writes a book into a bytearray and returns its total; spectra is one flat list."""
-    total = HEAD + (ENTRY + BODY) * len(numbers)
+    count = len(numbers)
     refuse_when(
-        (SHORT_TABLE, lambda: len(spectra) != LENGTH * len(numbers)),
-        (TOO_MANY_SHADES, lambda: len(numbers) > SHADE_LIMIT),
+        spacing_check(spacing),
+        (SHORT_TABLE, lambda: len(spectra) != LENGTHS[spacing] * count),
+        (TOO_MANY_SHADES, lambda: count > SHADE_LIMIT),
         (OUT_OF_ORDER, lambda: not rising_from_one(numbers)),
         (OVER_BRIGHT, lambda: any(reading > READING_LIMIT for reading in spectra)),
-        (SHORT_BUFFER, lambda: len(buffer) < total),
+        (SHORT_BUFFER, lambda: len(buffer) < total(spacing, count)),
     )
-    buffer[:total] = book_bytes([
-        (number, spectra[LENGTH * place:LENGTH * (place + 1)])
-        for place, number in enumerate(numbers)
+    rows = LENGTHS[spacing]
+    buffer[:total(spacing, count)] = book_bytes([
+        (number, spectra[rows * place:rows * (place + 1)]) for place, number in enumerate(numbers)
     ])
-    return total
+    return total(spacing, count)
 
 
-def shades(data):
-    """The (number, spectrum) pairs of a book, or None when a rule is broken."""
+def shades(data, spacing):
+    """The (number, spectrum) pairs of a book of that spacing, or None when a rule is broken."""
     if len(data) < HEAD or data[:4] != MAGIC:
         return None
-    count = take(data, 4, 2)
-    if count > SHADE_LIMIT or len(data) != HEAD + (ENTRY + BODY) * count:
+    count, body = take(data, 4, 2), body_length(spacing)
+    if count > SHADE_LIMIT or len(data) != total(spacing, count):
         return None
     found = []
     for place in range(count):
-        at, offset = HEAD + ENTRY * place, body_offset(count, place)
-        if take(data, at + 2, 2) != BODY or take(data, at + 4, 4) != offset:
+        at, offset = HEAD + ENTRY * place, body_offset(spacing, count, place)
+        if take(data, at + 2, 2) != body or take(data, at + 4, 4) != offset:
             return None
-        found.append((take(data, at, 2), readings(data[offset:offset + BODY])))
+        found.append((take(data, at, 2), readings(data[offset:offset + body])))
     if not rising_from_one([number for number, _ in found]):
         return None
     if any(max(spectrum) > READING_LIMIT for _, spectrum in found):
@@ -80,15 +88,12 @@ def shades(data):
     return found
 
 
-def is_book(data):
-    return shades(data) is not None
-
-
-def read(data, number, places):
-    """Reads one shade into a list of 81 places."""
-    held = shades(data)
+def read(spacing, data, number, places):
+    """Reads one shade into a list of places, as many as the spacing has rows."""
+    refuse_when(spacing_check(spacing))
+    held = shades(data, spacing)
     refuse_when(
-        (SHORT_TABLE, lambda: len(places) != LENGTH),
+        (SHORT_TABLE, lambda: len(places) != LENGTHS[spacing]),
         (NOT_A_BOOK, lambda: held is None),
         (NO_SUCH_SHADE, lambda: number not in dict(held)),
     )

@@ -7,6 +7,7 @@ import replay
 from chance import Chance
 from lines import any_spectrum, changed, flat
 from script import script
+from tables import LENGTHS
 
 SEED = 1931
 HOST_CASES = "oracle/host_cases.txt"
@@ -28,27 +29,44 @@ def spectrum_bytes(spectrum):
 
 def host_case(chance):
     """A light, the spectrum's bytes and the lent buffer, mostly good."""
-    spectrum = any_spectrum(chance)
+    spectrum = any_spectrum(chance, chance.pick((5, 10)))
     if chance.one_in(6):
-        spectrum = changed(spectrum, chance.below(81), chance.pick((20_001, 65_535)))
+        row = chance.below(len(spectrum))
+        spectrum = changed(spectrum, row, chance.pick((20_001, 65_535)))
     data = spectrum_bytes(spectrum)
     if chance.one_in(6):
-        data = (data + data)[:chance.pick((0, 1, 80, 81, 160, 161, 163, 164, 324))]
+        data = (data * 4)[:chance.pick((0, 1, 41, 80, 81, 83, 84, 160, 161, 163, 164, 324))]
     light = chance.pick((1, 2)) if chance.below(6) else chance.pick((0, 3, 257, 2**31, 2**32 - 1))
     length = chance.pick((20, 20, 21, 64)) if chance.below(6) else chance.below(20)
     return light, data, chance.bytes(length)
 
 
+def host_faults(chance, data):
+    """A spectrum's bytes with the light, the last reading and the buffer right and wrong in all
+    eight ways."""
+    bright = (data[:-2] + book.put(20_001, 2))[:len(data)]
+    for faults in range(8):
+        given = bright if faults & 2 else data
+        yield 3 if faults & 1 else 2, given, chance.bytes(19 if faults & 4 else 23)
+
+
+def host_lengths(chance):
+    """Spectra of 0 to 164 bytes, each in all eight ways."""
+    for length in range(165):
+        yield from host_faults(chance, spectrum_bytes(flat(20_000) * 2)[:length])
+
+
 def host_cases(chance):
-    """The light, the length, the reading and the buffer wrong in all sixteen ways, then others."""
-    for faults in range(16):
-        spectrum = flat(20_001 if faults & 4 else 20_000)
-        data = spectrum_bytes(spectrum)[:161 if faults & 2 else 162]
-        yield 3 if faults & 1 else 2, data, chance.bytes(19 if faults & 8 else 23)
-    for light in (1, 2):
-        for spectrum in (flat(0), flat(1), flat(10_000), flat(20_000)):
-            yield light, spectrum_bytes(spectrum), chance.bytes(20)
-    for _ in range(60):
+    """At each spacing the light, the length, the reading and the buffer wrong in all sixteen ways,
+    then others."""
+    for spacing in LENGTHS:
+        data = spectrum_bytes(flat(20_000, spacing))
+        yield from host_faults(chance, data)
+        yield from host_faults(chance, data[:-1])
+        for light in (1, 2):
+            for entry in (0, 1, 10_000, 20_000):
+                yield light, spectrum_bytes(flat(entry, spacing)), chance.bytes(20)
+    for _ in range(80):
         yield host_case(chance)
 
 

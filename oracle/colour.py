@@ -5,8 +5,9 @@ from math import isqrt
 
 WHITE_READING = 10_000
 
-# What an opening enters: the illuminant, the three observer columns and the white's sums.
-Conditions = namedtuple("Conditions", "illuminant observer white")
+# What an opening enters: the spacing, the illuminant, the three observer columns and the white's
+# sums.
+Conditions = namedtuple("Conditions", "spacing illuminant observer white")
 Colour = namedtuple("Colour", "X Y Z x y L a b u v chroma_ab chroma_uv")
 
 
@@ -29,13 +30,14 @@ def towards_zero(numerator, denominator):
 
 def sums(spectrum, illuminant, observer):
     """X, Y and Z: over the rows, reading x illuminant x column."""
+    assert all(len(table) == len(spectrum) for table in (illuminant, *observer))
     lit = [reading * power for reading, power in zip(spectrum, illuminant)]
     return tuple(sum(map(int.__mul__, lit, column)) for column in observer)
 
 
-def conditions(illuminant, observer):
+def conditions(spacing, illuminant, observer):
     white = sums([WHITE_READING] * len(illuminant), illuminant, observer)
-    return Conditions(tuple(illuminant), tuple(map(tuple, observer)), white)
+    return Conditions(spacing, tuple(illuminant), tuple(map(tuple, observer)), white)
 
 
 def above_knee(n, d):

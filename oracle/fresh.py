@@ -1,19 +1,24 @@
-"""Fresh random lists of calls, with what the ledger answers, and fresh books, whole and damaged."""
+"""Fresh random lists of calls, with what the ledger answers."""
 
-import book
+from collections import Counter
+
 import exact
 from chance import Chance
 from colour import colour, difference
 from ledger import GUARD, Ledger, Preview, Trial
 from lines import (
-    LARGEST_TABLES, REPORT, TOO_LARGE, any_spectrum, changed, few_rows_tables, full_tables,
-    light, near_spectrum, opening, preview, standard, tolerance, trial,
+    OTHER, REPORT, TOO_LARGE, UNKNOWN_SPACINGS, any_spectrum, changed, few_rows_tables,
+    full_tables, largest_tables, light, near_spectrum, opening, preview, standard, tolerance,
+    trial,
 )
-from published import THREE_ROWS, flat
+from published import flat, three_rows
 from replay import READING_BITS, Step, answer, whole_table
-from script import unreadable
+from spacings import old_forms
+from tables import LENGTHS
+from unreadable import unreadable
 
 LIGHT_WORDS = (1, 2, 1, 2, 1, 2, 0, 3, "02", 2**32 - 1, 2**32 + 1, TOO_LARGE)
+SPACING_WORDS = {5: (5, 5, 5, "05"), 10: (10, 10, 10, "00010")}
 BAD_READINGS = (20_001, 40_000, 65_535, 65_536, TOO_LARGE)
 BAD_ENTRIES = (2_000_001, 3_000_001, 2**32, TOO_LARGE)
 
@@ -25,6 +30,7 @@ class CallList:
         self.chance = Chance(seed)
         self.ledger = Ledger()
         self.lines, self.steps, self.misjudged = [], [], []
+        self.judged = Counter()  # trials and previews, by spacing and verdict
 
     def say(self, line):
         self.lines.append(line)
@@ -32,8 +38,10 @@ class CallList:
             return
         step = Step(len(self.lines), line, *answer(self.ledger, line))
         self.steps.append(step)
-        if isinstance(step.result, (Trial, Preview)) and not self.holds(step.result, line):
-            self.misjudged.append(step)
+        if isinstance(step.result, (Trial, Preview)):
+            self.judged[self.ledger.conditions.spacing, step.result.verdict] += 1
+            if not self.holds(step.result, line):
+                self.misjudged.append(step)
 
     def holds(self, judged, line):
         """The exact difference bears the verdict out."""
@@ -48,38 +56,61 @@ class CallList:
 
     # Moves: each says a line or a few.
 
+    def in_force(self):
+        """The spacing in force, or either when nothing is opened."""
+        held = self.ledger.conditions
+        return held.spacing if held else self.chance.pick((5, 10))
+
+    def named(self, spacing):
+        """A spacing as an opening names it; now and then an unknown one or the other."""
+        if self.chance.one_in(12):
+            return self.chance.pick(UNKNOWN_SPACINGS)
+        if self.chance.one_in(12):
+            spacing = OTHER[spacing]
+        return self.chance.pick(SPACING_WORDS[spacing])
+
+    def a_spectrum(self):
+        """Mostly of the spacing in force."""
+        spacing = self.in_force()
+        return any_spectrum(self.chance, OTHER[spacing] if self.chance.one_in(12) else spacing)
+
     def maybe_bad(self, spectrum):
         """Now and then a wrong length, an over-bright reading, or both."""
         if self.chance.one_in(12):
-            spectrum = changed(spectrum, self.chance.below(81), self.chance.pick(BAD_READINGS))
+            row = self.chance.below(len(spectrum))
+            spectrum = changed(spectrum, row, self.chance.pick(BAD_READINGS))
         if self.chance.one_in(12):
-            spectrum = (spectrum * 3)[:self.chance.pick((0, 1, 40, 80, 82, 162, 243))]
+            lengths = (0, 1, 40, 41, 42, 80, 81, 82, 123, 162, 243)
+            spectrum = (spectrum * 6)[:self.chance.pick(lengths)]
         return spectrum
 
     def open_light(self):
-        self.say(light(self.chance.pick(LIGHT_WORDS)))
+        spacing = self.chance.pick((5, 10))
+        self.say(light(self.chance.pick(LIGHT_WORDS), self.named(spacing)))
 
     def open_tables(self):
         chance = self.chance
+        spacing = chance.pick((5, 10))
         tables = list(chance.pick((
-            lambda: few_rows_tables(chance),
-            lambda: few_rows_tables(chance),
-            lambda: full_tables(chance),
-            lambda: full_tables(chance, 1_990_000),
-            lambda: THREE_ROWS,
-            lambda: LARGEST_TABLES,
+            lambda: few_rows_tables(chance, spacing),
+            lambda: few_rows_tables(chance, spacing),
+            lambda: full_tables(chance, spacing),
+            lambda: full_tables(chance, spacing, 1_990_000),
+            lambda: three_rows(spacing),
+            lambda: largest_tables(spacing),
         ))())
         if chance.one_in(5):
-            place = chance.below(4)
+            place, rows = chance.below(4), LENGTHS[spacing]
+            lengths = (0, rows - 1, rows + 1, LENGTHS[OTHER[spacing]], 2 * rows)
             tables[place] = chance.pick((
-                (tables[place] * 2)[:chance.pick((0, 80, 82, 162))],
-                changed(tables[place], chance.below(81), chance.pick(BAD_ENTRIES)),
-                flat(0),
+                (tables[place] * 2)[:chance.pick(lengths)],
+                changed(tables[place], chance.below(rows), chance.pick(BAD_ENTRIES)),
+                flat(0, spacing),
             ))
-        self.say(opening(tables))
+        self.say(opening(tables, self.named(spacing)))
 
     def enter_standard(self):
-        self.say(standard(self.maybe_bad(any_spectrum(self.chance))))
+        self.say(standard(self.maybe_bad(self.a_spectrum())))
 
     def enter_tolerance(self):
         amount = self.chance.pick((
@@ -90,7 +121,7 @@ class CallList:
 
     def swatch(self):
         """Often near the standard, and now and then bad."""
-        spectrum = any_spectrum(self.chance)
+        spectrum = self.a_spectrum()
         if self.ledger.standard is not None and not self.chance.one_in(3):
             spectrum = near_spectrum(self.chance, self.ledger.standard)
         return self.maybe_bad(spectrum)
@@ -141,7 +172,7 @@ class CallList:
         self.say(bytes(line))
 
 
-UNREADABLE = unreadable()
+UNREADABLE = unreadable() + old_forms()
 MOVES = (
     [CallList.open_light] * 3 + [CallList.open_tables] * 2 + [CallList.enter_standard] * 5
     + [CallList.enter_tolerance] * 4 + [CallList.enter_trial] * 10 + [CallList.look] * 5
@@ -162,55 +193,8 @@ def call_list(seed):
     """A list of 1 to some 150 calls; most begin with an accepted opening."""
     made = CallList(seed)
     if not made.chance.one_in(5):
-        made.say(light(made.chance.between(1, 2)))
+        made.say(light(made.chance.between(1, 2), made.chance.pick((5, 10))))
         made.enter_standard()
     for _ in range(made.chance.pick((1, 5, 40, 80))):
         made.chance.pick(MOVES)(made)
     return made
-
-
-def rising_numbers(chance, count):
-    """At most 300 apart from each other and from 0."""
-    numbers, number = [], 0
-    for _ in range(count):
-        number += chance.pick((1, 1, 2, 300))
-        numbers.append(number)
-    return numbers
-
-
-def whole_book(chance):
-    numbers = rising_numbers(chance, chance.pick((0, 1, 2, 5, 20, 200)))
-    return book.book_bytes([(number, any_spectrum(chance)) for number in numbers])
-
-
-def overwrite(data, at, value, size):
-    return data[:at] + book.put(value, size) + data[at + size:]
-
-
-def damaged_book(chance):
-    """The kind of damage and the bytes; now and then the damage happens to leave a book."""
-    data = whole_book(chance)
-    while len(data) == book.HEAD:
-        data = whole_book(chance)
-    count = book.take(data, 4, 2)
-    place = chance.below(count)
-    entry, body = book.HEAD + book.ENTRY * place, book.body_offset(count, place)
-    first, bodies = book.take(data, book.HEAD, 2), book.body_offset(count, 0)
-    any_row = body + 2 * chance.below(81)
-    wrong_count = chance.pick((0, count - 1, count + 1, 201, 65_535))
-    wrong_length = chance.pick((0, 161, 163, 418, 65_535))
-    wrong_offset = body + chance.pick((-2, -1, 1, 162, 65_536, 2**24))
-    return chance.pick((
-        lambda: ("magic", overwrite(data, chance.below(4), chance.below(256), 1)),
-        lambda: ("count", overwrite(data, 4, wrong_count, 2)),
-        lambda: ("length", overwrite(data, entry + 2, wrong_length, 2)),
-        lambda: ("offset", overwrite(data, entry + 4, wrong_offset, 4)),
-        lambda: ("order", overwrite(data, entry, chance.pick((first, 1, 65_535)), 2)),
-        lambda: ("zero number", overwrite(data, book.HEAD, 0, 2)),
-        lambda: ("gap", data[:bodies] + b"\0\0" + data[bodies:]),
-        lambda: ("trailing", data + chance.bytes(chance.pick((1, 2, 162, 170)))),
-        lambda: ("truncated", data[:chance.below(len(data))]),
-        lambda: ("reading", overwrite(data, any_row, chance.pick((20_001, 65_535)), 2)),
-        lambda: ("too many", book.book_bytes([(n, flat(n)) for n in range(1, 202)])),
-        lambda: ("any byte", overwrite(data, chance.below(len(data)), chance.below(256), 1)),
-    ))()

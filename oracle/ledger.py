@@ -6,11 +6,11 @@ Every call returns its answer or raises Refused; a refusal leaves the ledger as 
 from collections import namedtuple
 
 from colour import colour, conditions, difference
-from tables import LENGTH, LIGHTS, OBSERVER
+from tables import LENGTHS, LIGHTS, light_tables
 
 SHORT_TABLE, OVER_BRIGHT, OFF_SCALE_CONDITION, DARK_WHITE, LOPSIDED_WHITE = 1, 2, 3, 4, 5
 NO_CONDITIONS, NO_STANDARD, NO_TOLERANCE, TOLERANCE_OFF_SCALE, SESSION_FULL = 6, 7, 8, 9, 10
-NO_SUCH_LIGHT = 16
+NO_SUCH_LIGHT, UNKNOWN_SPACING = 16, 17
 
 READING_LIMIT = 20_000
 ILLUMINANT_LIMIT = 3_000_000
@@ -39,25 +39,34 @@ def refuse_when(*checks):
             raise Refused(cause)
 
 
-def spectrum_checks(spectrum):
+def spacing_check(spacing):
+    """The first check of every call that names a spacing."""
+    return UNKNOWN_SPACING, lambda: spacing not in LENGTHS
+
+
+def spectrum_checks(spectrum, under):
+    """A spectrum's, for a call that names no spacing: it has the rows of the one in force."""
     return (
-        (SHORT_TABLE, lambda: len(spectrum) != LENGTH),
+        (SHORT_TABLE, lambda: len(spectrum) != LENGTHS[under.spacing]),
         (OVER_BRIGHT, lambda: max(spectrum) > READING_LIMIT),
     )
 
 
-def built_in(light):
-    refuse_when((NO_SUCH_LIGHT, lambda: light not in LIGHTS))
-    return conditions(LIGHTS[light], OBSERVER)
+def built_in(light, spacing):
+    refuse_when(spacing_check(spacing), (NO_SUCH_LIGHT, lambda: light not in LIGHTS))
+    illuminant, *observer = light_tables(light, spacing)
+    return conditions(spacing, illuminant, observer)
 
 
-def from_tables(illuminant, observer):
+def from_tables(spacing, illuminant, observer):
+    tables = illuminant, *observer
     refuse_when(
-        (SHORT_TABLE, lambda: any(len(table) != LENGTH for table in (illuminant, *observer))),
+        spacing_check(spacing),
+        (SHORT_TABLE, lambda: any(len(table) != LENGTHS[spacing] for table in tables)),
         (OFF_SCALE_CONDITION, lambda: max(illuminant) > ILLUMINANT_LIMIT
             or any(max(column) > OBSERVER_LIMIT for column in observer)),
     )
-    entered = conditions(illuminant, observer)
+    entered = conditions(spacing, illuminant, observer)
     Xn, Yn, Zn = entered.white
     refuse_when(
         (DARK_WHITE, lambda: 0 in (Xn, Yn, Zn)),
@@ -80,17 +89,20 @@ class Ledger:
         self.tolerance = None
         self.counts = dict.fromkeys(VERDICTS, 0)
 
-    def open_light(self, light):
-        self.enter(built_in(light))
+    def open_light(self, light, spacing):
+        self.enter(built_in(light, spacing))
 
-    def open_tables(self, illuminant, x, y, z):
-        self.enter(from_tables(illuminant, (x, y, z)))
+    def open_tables(self, spacing, illuminant, x, y, z):
+        self.enter(from_tables(spacing, illuminant, (x, y, z)))
 
     def enter(self, entered):
         self.conditions, self.standard = entered, None
 
     def enter_standard(self, spectrum):
-        refuse_when((NO_CONDITIONS, lambda: self.conditions is None), *spectrum_checks(spectrum))
+        refuse_when(
+            (NO_CONDITIONS, lambda: self.conditions is None),
+            *spectrum_checks(spectrum, self.conditions),
+        )
         self.standard = tuple(spectrum)
         return colour(spectrum, self.conditions)
 
@@ -105,7 +117,7 @@ class Ledger:
             (NO_STANDARD, lambda: self.standard is None),
             (NO_TOLERANCE, lambda: self.tolerance is None),
             (SESSION_FULL, lambda: sum(self.counts.values()) >= TALLY_LIMIT),
-            *spectrum_checks(spectrum),
+            *spectrum_checks(spectrum, self.conditions),
         )
         space, T = self.tolerance
         own = colour(spectrum, self.conditions)

@@ -1,19 +1,19 @@
 """Lines of a replay script, and spectra and tables to fill them."""
 
 from published import filled, flat
-from tables import LENGTH
+from tables import LENGTHS
 
 
 def counted(entries):
     return " ".join(map(str, [len(entries), *entries]))
 
 
-def light(number):
-    return f"light {number}".encode()
+def light(number, spacing=5):
+    return f"light {number} {spacing}".encode()
 
 
-def opening(tables):
-    return " ".join(["open", *map(counted, tables)]).encode()
+def opening(tables, spacing=5):
+    return " ".join([f"open {spacing}", *map(counted, tables)]).encode()
 
 
 def standard(spectrum):
@@ -32,8 +32,20 @@ def preview(spectrum):
     return f"preview {counted(spectrum)}".encode()
 
 
+def seen_first(*spectra):
+    """Each spectrum previewed and then tried."""
+    return [line for spectrum in spectra for line in (preview(spectrum), trial(spectrum))]
+
+
 REPORT = b"report"
 TOO_LARGE = 10**64 + 1  # for every place; cut to its low bits or low digits it would be 1
+OTHER = {5: 10, 10: 5}  # the other spacing
+
+# Those from 261 on would be 5 or 10 if they were cut to their low bits or low digits.
+UNKNOWN_SPACINGS = (
+    0, 1, 4, 6, 9, 11, 15, 20, 41, 50, 81, 100, 261, 266, 2**16 + 5, 2**16 + 10, 2**32 - 1,
+    2**32 + 5, 2**32 + 10, 2**64 + 5, 2**64 + 10, 10**64 + 5, 10**64 + 10,
+)
 
 
 def changed(entries, at, entry):
@@ -41,36 +53,37 @@ def changed(entries, at, entry):
     return [*entries[:at], entry, *entries[at + 1:]]
 
 
-def smooth_spectrum(chance, low=0, high=20_000):
+def smooth_spectrum(chance, low, high, spacing):
     """Straight pieces between a few random readings."""
-    step = chance.pick((10, 20, 40))
-    knots = [chance.between(low, high) for _ in range(LENGTH // step + 2)]
+    rows, step = LENGTHS[spacing], chance.pick((10, 20, 40))
+    knots = [chance.between(low, high) for _ in range(rows // step + 2)]
     return [
         (knots[row // step] * (step - row % step) + knots[row // step + 1] * (row % step)) // step
-        for row in range(LENGTH)
+        for row in range(rows)
     ]
 
 
-def rough_spectrum(chance, high=20_000):
-    return [chance.between(0, high) for _ in range(LENGTH)]
+def rough_spectrum(chance, spacing):
+    return [chance.between(0, 20_000) for _ in range(LENGTHS[spacing])]
 
 
-def spiky_spectrum(chance):
+def spiky_spectrum(chance, spacing):
     """Zero but for a few rows, some of them of the largest reading."""
-    spectrum = flat(0)
+    spectrum = flat(0, spacing)
     for _ in range(chance.between(1, 4)):
-        spectrum[chance.below(LENGTH)] = chance.pick((1, chance.between(0, 20_000), 20_000))
+        row = chance.below(LENGTHS[spacing])
+        spectrum[row] = chance.pick((1, chance.between(0, 20_000), 20_000))
     return spectrum
 
 
-def any_spectrum(chance):
+def any_spectrum(chance, spacing=5):
     return chance.pick((
-        lambda: smooth_spectrum(chance),
-        lambda: smooth_spectrum(chance, 0, 2_000),
-        lambda: smooth_spectrum(chance, 0, 200),
-        lambda: rough_spectrum(chance),
-        lambda: spiky_spectrum(chance),
-        lambda: flat(chance.pick((0, 1, 88, 89, 10_000, 20_000, chance.below(20_001)))),
+        lambda: smooth_spectrum(chance, 0, 20_000, spacing),
+        lambda: smooth_spectrum(chance, 0, 2_000, spacing),
+        lambda: smooth_spectrum(chance, 0, 200, spacing),
+        lambda: rough_spectrum(chance, spacing),
+        lambda: spiky_spectrum(chance, spacing),
+        lambda: flat(chance.pick((0, 1, 88, 89, 10_000, 20_000, chance.below(20_001))), spacing),
     ))()
 
 
@@ -85,40 +98,39 @@ def near_spectrum(chance, spectrum):
     ]
 
 
-def few_rows_tables(chance):
+def few_rows_tables(chance, spacing):
     """x, y and z lit by a row or two each; rows may be shared."""
-    illuminant, columns = flat(0), [flat(0), flat(0), flat(0)]
+    illuminant, *columns = (flat(0, spacing) for _ in range(4))
     for column in columns:
         for _ in range(chance.between(1, 2)):
-            row = chance.below(LENGTH)
+            row = chance.below(LENGTHS[spacing])
             illuminant[row] = chance.pick((1, 1, 99, 3_000_000))
             column[row] = chance.pick((1, 1, 2, 99, 2_000_000))
     return (illuminant, *columns)
 
 
-def full_tables(chance, floor=0):
+def full_tables(chance, spacing, floor=0):
     """Every row random; a floor near the limits gives the largest sums."""
-    illuminant = [chance.between(floor, 3_000_000) for _ in range(LENGTH)]
-    columns = [[chance.between(min(floor, 2_000_000), 2_000_000) for _ in range(LENGTH)]
-               for _ in range(3)]
+    rows = range(LENGTHS[spacing])
+    illuminant = [chance.between(floor, 3_000_000) for _ in rows]
+    columns = [[chance.between(min(floor, 2_000_000), 2_000_000) for _ in rows] for _ in range(3)]
     return (illuminant, *columns)
 
 
-LARGEST_TABLES = (flat(3_000_000), flat(2_000_000), flat(2_000_000), flat(2_000_000))
-
-# x, y and z have two rows each, of weight 99 and 1, so a ratio is whole in 1/1,000,000.
-MILLIONTHS_TABLES = (
-    filled(1, 1, 1, 1, 1, 1),
-    filled(99, 1),
-    filled(0, 0, 99, 1),
-    filled(0, 0, 0, 0, 99, 1),
-)
+def largest_tables(spacing):
+    return (flat(3_000_000, spacing), *(flat(2_000_000, spacing) for _ in range(3)))
 
 
-def millionths_spectrum(*ratios):
+def millionths_tables(spacing):
+    """x, y and z have two rows each, of weight 99 and 1, so a ratio is whole in 1/1,000,000."""
+    return tuple(filled(*entries, spacing=spacing) for entries in (
+        (1, 1, 1, 1, 1, 1), (99, 1), (0, 0, 99, 1), (0, 0, 0, 0, 99, 1)))
+
+
+def millionths_spectrum(*ratios, spacing=5):
     """Readings that give X, Y and Z these ratios to the white, each in 1/1,000,000."""
     readings = []
     for ratio in ratios:
         heavy = ratio // 100
         readings += [heavy, ratio - 99 * heavy]
-    return filled(*readings)
+    return filled(*readings, spacing=spacing)

@@ -3,13 +3,13 @@ it, buffers that are too short."""
 
 from array import array
 
-from lines import any_spectrum, changed
-from published import THREE_ROWS
+from lines import OTHER, any_spectrum, changed
+from published import three_rows
 from records import (
     ANSWER_WORDS, CALL_WORDS, OPEN_TABLES, PREVIEW, READING, STANDARD, TRIAL, WORD, WORD_BYTES,
     WORD_LIMIT, Recorder, Run, answers_size, any_words, call_count, put,
 )
-from tables import LENGTH
+from tables import LENGTHS
 
 
 def empty_lists(chance):
@@ -19,38 +19,40 @@ def empty_lists(chance):
             yield Run(records, array(WORD), array(READING), lent)
 
 
-def ends(size):
+def ends(size, rows):
     """Parts that end with a pool of that size, and parts that run past its end."""
-    last, far = size - LENGTH, WORD_LIMIT - 1
-    return ((last, LENGTH), (last + 1, LENGTH), (last, LENGTH + 1), (size, 0), (size + 1, 0),
-            (size, LENGTH), (size + 1, LENGTH), (WORD_LIMIT - LENGTH, LENGTH), (far, LENGTH),
+    last, far = size - rows, WORD_LIMIT - 1
+    return ((last, rows), (last + 1, rows), (last, rows + 1), (size, 0), (size + 1, 0),
+            (size, rows), (size + 1, rows), (WORD_LIMIT - rows, rows), (far, rows),
             (last, far), (far, far))
 
 
-def parts_at_the_end(chance):
+def parts_at_the_end(chance, spacing):
     """Standards, trials, previews and each of an opening's tables, as parts at the end of their
-    pool."""
+    pool, with the rows of that spacing and of the other."""
     held = Recorder(chance)
-    whole = [put(held.tables, table) for table in THREE_ROWS]
-    for _ in range(2):
-        put(held.spectra, any_spectrum(chance))
-    held.open_light(2)
+    whole = [put(held.tables, table) for table in three_rows(spacing)]
+    for _ in range(4):
+        put(held.spectra, any_spectrum(chance, spacing))
+    held.open_light(2, spacing)
     held.enter_tolerance("luv", 1_000_000)
-    for words in ends(len(held.spectra)):
+    rows, other = LENGTHS[spacing], LENGTHS[OTHER[spacing]]
+    for words in (*ends(len(held.spectra), rows), *ends(len(held.spectra), other)):
         held.write(STANDARD, *words)
         held.write(TRIAL, *words)
         held.write(PREVIEW, *words)
     for place in range(len(whole)):
-        for words in ends(len(held.tables)):
+        for words in (*ends(len(held.tables), rows), *ends(len(held.tables), other)):
             parts = changed(whole, place, words)
-            held.write(OPEN_TABLES, *(word for table in parts for word in table))
+            held.write(OPEN_TABLES, *(word for table in parts for word in table), spacing)
     return held.run()
 
 
 def disturbed(chance, run):
     """A list with a word changed here and there, and some words after its last record."""
     def other(word):
-        near = chance.pick((word - 1, word + 1, chance.below(CALL_WORDS), LENGTH, chance.word()))
+        known = chance.pick((*LENGTHS, *LENGTHS.values()))
+        near = chance.pick((word - 1, word + 1, chance.below(CALL_WORDS), known, chance.word()))
         return near % WORD_LIMIT
 
     words = [other(word) if chance.one_in(25) else word for word in run.records]
@@ -61,7 +63,7 @@ def any_run(chance, limit):
     """Words and entries of any kind below a limit."""
     held = Recorder(chance)
     held.records.extend(chance.below(limit) for _ in range(100 * CALL_WORDS + 1))
-    held.tables.extend(chance.below(limit) for _ in range(4 * LENGTH))
+    held.tables.extend(chance.below(limit) for _ in range(4 * LENGTHS[5]))
     put(held.spectra, any_spectrum(chance))
     return held.run()
 
@@ -69,8 +71,9 @@ def any_run(chance, limit):
 def odd_runs(chance, runs):
     """Also every third of the runs disturbed, and with a buffer one word too short."""
     yield from empty_lists(chance)
-    yield parts_at_the_end(chance)
-    for limit in (CALL_WORDS, LENGTH + 1, WORD_LIMIT):
+    for spacing in LENGTHS:
+        yield parts_at_the_end(chance, spacing)
+    for limit in (CALL_WORDS + 1, LENGTHS[5] + 1, WORD_LIMIT):
         yield any_run(chance, limit)
     for run in runs[::3]:
         yield disturbed(chance, run)

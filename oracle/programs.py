@@ -113,9 +113,10 @@ def host_bytes(case):
 
 def call_bytes(call):
     if isinstance(call, Write):
-        head = native(0, len(call.numbers), len(call.spectra), len(call.lent))
+        head = native(0, call.spacing, len(call.numbers), len(call.spectra), len(call.lent))
         return head + words(call.numbers) + words(call.spectra) + call.lent
-    return native(1, len(call.data), call.number, len(call.lent) // 2) + call.data + call.lent
+    head = native(1, call.spacing, len(call.data), call.number, len(call.lent) // 2)
+    return head + call.data + call.lent
 
 
 def run_bytes(run):

@@ -7,8 +7,8 @@ reading is a ratio in 1/10,000, and with Z at its white b gives the f step of Y.
 from pathlib import Path
 
 from colour import f_step, lightness, uv_prime
-from ledger import Ledger, built_in
-from tables import LENGTH, LIGHTS, OBSERVER
+from ledger import Ledger
+from tables import LENGTHS, LIGHTS, OBSERVER, light_tables
 
 HERE = Path(__file__).parent
 
@@ -16,25 +16,34 @@ HERE = Path(__file__).parent
 LIGHTNESS_MISPRINTS = {101: (3302, 3802), 755: (8968, 8963), 784: (9196, 9096), 863: (9441, 9444)}
 ROOT_MISPRINTS = {6: (1817, 1847), 48: (3631, 3634), 870: (9516, 9546)}
 
-WHITES = {1: (10985, 10000, 3558, 2560, 5243), 2: (9504, 10000, 10888, 1978, 4683)}
-WHITES_10_NM = {1: (10983, 10000, 3555, 2559, 5243), 2: (9502, 10000, 10881, 1978, 4684)}
+# Tables 3 and 4: the white of a light at a spacing.
+WHITES = {
+    (1, 5): (10985, 10000, 3558, 2560, 5243), (2, 5): (9504, 10000, 10888, 1978, 4683),
+    (1, 10): (10983, 10000, 3555, 2559, 5243), (2, 10): (9502, 10000, 10881, 1978, 4684),
+}
 EQUAL_ENERGY = (333_334, 333_331)
 
 
-def filled(*entries):
-    """81 entries: those given, then zeros."""
-    return [*entries, *[0] * (LENGTH - len(entries))]
+def filled(*entries, spacing=5):
+    """As many entries as the spacing has rows: those given, then zeros."""
+    return [*entries, *[0] * (LENGTHS[spacing] - len(entries))]
 
 
-def flat(entry):
-    return [entry] * LENGTH
+def flat(entry, spacing=5):
+    return [entry] * LENGTHS[spacing]
 
 
-THREE_ROWS = (filled(1, 1, 1), filled(1), filled(0, 1), filled(0, 0, 1))
+def three_rows(spacing):
+    return tuple(filled(*entries, spacing=spacing)
+                 for entries in ((1, 1, 1), (1,), (0, 1), (0, 0, 1)))
+
+
+THREE_ROWS = three_rows(5)
 EQUAL_ENERGY_TABLES = (flat(10_000), *OBSERVER)
 
 
-def ten_nm_tables(light):
+def dark_between_tables(light):
+    """81 rows, every second one dark: the sums of 10 nm."""
     kept = [power if row % 2 == 0 else 0 for row, power in enumerate(LIGHTS[light])]
     return (kept, *OBSERVER)
 
@@ -56,9 +65,9 @@ def agrees(printed_entry, counted, unit):
     return abs(printed_entry * unit - counted) * 2 <= unit
 
 
-def opened(tables):
+def opened(tables, spacing=5):
     ledger = Ledger()
-    ledger.open_tables(*tables)
+    ledger.open_tables(spacing, *tables)
     return ledger
 
 
@@ -79,7 +88,7 @@ def check_printed_tables():
 
 
 def check_white(ledger, expected):
-    own = ledger.enter_standard(flat(10_000))
+    own = ledger.enter_standard(flat(10_000, ledger.conditions.spacing))
     coordinates = uv_prime(*ledger.conditions.white)
     for entry, counted in zip(expected[:3], own[:3]):
         assert agrees(entry, counted, 100), (expected, own)
@@ -89,12 +98,14 @@ def check_white(ledger, expected):
 
 
 def check_whites():
+    for (light, spacing), expected in WHITES.items():
+        ledger, by_tables = Ledger(), opened(light_tables(light, spacing), spacing)
+        ledger.open_light(light, spacing)
+        assert ledger.conditions == by_tables.conditions
+        check_white(ledger, expected)
+        check_white(by_tables, expected)
     for light in LIGHTS:
-        ledger = Ledger()
-        ledger.open_light(light)
-        check_white(ledger, WHITES[light])
-        check_white(opened((LIGHTS[light], *OBSERVER)), WHITES[light])
-        check_white(opened(ten_nm_tables(light)), WHITES_10_NM[light])
+        check_white(opened(dark_between_tables(light)), WHITES[light, 10])
     own = opened(EQUAL_ENERGY_TABLES).enter_standard(flat(10_000))
     assert (own.x, own.y) == EQUAL_ENERGY, own
 
@@ -108,18 +119,23 @@ def check_marked_examples():
                    (1, 1): 1000000, (2, 1): 1301508}
     for ratio, L in lightnesses.items():
         assert lightness(*ratio) == L, ratio
-    ledger = opened(THREE_ROWS)
-    own = ledger.enter_standard(filled(10_000, 1_250, 270))
+    for spacing in LENGTHS:
+        check_three_rows(spacing)
+
+
+def check_three_rows(spacing):
+    """Groups 3 and 4; rows past the third are dark, so they are the same at each spacing."""
+    ledger = opened(three_rows(spacing), spacing)
+    own = ledger.enter_standard(filled(10_000, 1_250, 270, spacing=spacing))
     assert (own.L, own.a, own.b, own.u, own.v) == (420000, 2500000, 400000, 6238888, -508339)
     assert (own.x, own.y, own.chroma_ab) == (868055, 108506, 2531797)
-    ledger.enter_standard(flat(1_250))
+    ledger.enter_standard(flat(1_250, spacing))
     verdicts = {232012: "pass", 232011: "line", 231989: "line", 231988: "fail"}
     for amount, verdict in verdicts.items():
         ledger.enter_tolerance("lab", amount)
-        judged = ledger.trial(flat(270))
+        judged = ledger.trial(flat(270, spacing))
         assert (judged.difference, judged.verdict) == (232000, verdict), amount
     assert ledger.report() == (1, 1, 2)
-    assert built_in(2) == opened((LIGHTS[2], *OBSERVER)).conditions
 
 
 def check_all():

@@ -1,5 +1,5 @@
 """Lists of calls held in slices, and their answers, as crates/calls/specs/Records.antt lays them
-out: nine words a call, its tables and spectra as parts of two pools, thirty-two words an answer."""
+out: ten words a call, its tables and spectra as parts of two pools, thirty-two words an answer."""
 
 from array import array
 from collections import namedtuple
@@ -10,7 +10,7 @@ from book_calls import REFUSAL
 from colour import Colour
 from ledger import VERDICTS, Ledger, Preview, Refused, Trial
 
-CALL_WORDS, ANSWER_WORDS, COLOUR_WORDS = 9, 32, 13
+CALL_WORDS, ANSWER_WORDS, COLOUR_WORDS = 10, 32, 13
 OPEN_TABLES, OPEN_LIGHT, STANDARD, TOLERANCE_LAB, TOLERANCE_LUV, TRIAL, PREVIEW = range(1, 8)
 ACCEPTED, COLOURED, TRIED, COUNTED, REFUSED, PREVIEWED = range(6)
 JUDGED = {TRIED: Trial, PREVIEWED: Preview}
@@ -58,11 +58,12 @@ class Recorder:
         unnamed = any_words(self.chance, CALL_WORDS - 1 - len(words))
         self.records.extend([kind, *words, *unnamed])
 
-    def open_light(self, light):
-        self.write(OPEN_LIGHT, light)
+    def open_light(self, light, spacing):
+        self.write(OPEN_LIGHT, light, spacing)
 
-    def open_tables(self, *tables):
-        self.write(OPEN_TABLES, *(word for table in tables for word in put(self.tables, table)))
+    def open_tables(self, spacing, *tables):
+        parts = [word for table in tables for word in put(self.tables, table)]
+        self.write(OPEN_TABLES, *parts, spacing)
 
     def enter_standard(self, spectrum):
         self.write(STANDARD, *put(self.spectra, spectrum))
@@ -125,9 +126,10 @@ def call(ledger, run, at):
     """Makes the call whose record begins at a place."""
     kind, *words = run.records[at:at + CALL_WORDS]
     if kind == OPEN_TABLES:
-        return ledger.open_tables(*(part(run.tables, *words[k:k + 2]) for k in (0, 2, 4, 6)))
+        tables = (part(run.tables, *words[k:k + 2]) for k in (0, 2, 4, 6))
+        return ledger.open_tables(words[8], *tables)
     if kind == OPEN_LIGHT:
-        return ledger.open_light(words[0])
+        return ledger.open_light(*words[:2])
     if kind == STANDARD:
         return ledger.enter_standard(part(run.spectra, *words[:2]))
     if kind == TOLERANCE_LAB:

@@ -6,8 +6,10 @@ Rules where the design's text is silent:
 - Words are apart by exactly one space; no leading or trailing space, no extra word.
 - A number is one or more of the digits 0 to 9; leading zeros are allowed, signs are not. One too
   large for its place counts as the largest that fits there: readings have 16 bits; table entries,
-  the tolerance's amount and the light number have 32; a length has 64.
+  the tolerance's amount, the light number and the spacing have 32; a length has 64.
 - A table or spectrum has any length, 0 included, but as many numbers must follow as it says.
+- A line that was a call in the form of an earlier job is read in the form of today: where its
+  numbers happen to fit that, it is the call that they say.
 Any other line is unreadable and is no call.
 """
 
@@ -15,7 +17,7 @@ from collections import namedtuple
 
 from ledger import Ledger, Preview, Refused, Trial
 
-READING_BITS, ENTRY_BITS, LENGTH_BITS = 16, 32, 64
+READING_BITS, ENTRY_BITS, LENGTH_BITS = 16, 32, 64  # an amount, light or spacing is as an entry
 
 # result is what the ledger returned: None, a Colour, a Trial, a Preview or the tallies.
 Step = namedtuple("Step", "number line answer result")
@@ -50,10 +52,11 @@ def whole_table(words, bits):
     return entries
 
 
-def one_number(words):
-    if len(words) != 1:
+def so_many(count, words):
+    """The numbers that the words are, which must be so many."""
+    if len(words) != count:
         raise Unreadable
-    return number(words[0], ENTRY_BITS)
+    return [number(word, ENTRY_BITS) for word in words]
 
 
 def four_tables(words):
@@ -70,13 +73,13 @@ def call(ledger, line):
     """Reads a line whole before the ledger sees it, then makes its call."""
     name, *words = line.split(b" ")
     if name == b"light":
-        return ledger.open_light(one_number(words))
+        return ledger.open_light(*so_many(2, words))
     if name == b"open":
-        return ledger.open_tables(*four_tables(words))
+        return ledger.open_tables(*so_many(1, words[:1]), *four_tables(words[1:]))
     if name == b"standard":
         return ledger.enter_standard(whole_table(words, READING_BITS))
     if name == b"tolerance" and words[:1] in ([b"lab"], [b"luv"]):
-        return ledger.enter_tolerance(words[0].decode(), one_number(words[1:]))
+        return ledger.enter_tolerance(words[0].decode(), *so_many(1, words[1:]))
     if name == b"trial":
         return ledger.trial(whole_table(words, READING_BITS))
     if name == b"preview":

@@ -1,10 +1,11 @@
 """The built-in tables: the 1931 observer (000, Table 1) and lights A and D65 (001, Table 1).
 
-One row per wavelength, 380 to 780 nm by 5 nm. Observer columns count 1/1,000,000, illuminants
-1/10,000. 000 decides over 003 at 465 nm (z), 515 nm (x), 595 nm (y) and 610 nm (x).
+One row per wavelength, 380 to 780 nm by 5 nm; at 10 nm every second row is used. Observer columns
+count 1/1,000,000, illuminants 1/10,000. 000 decides over 003 at 465 nm (z), 515 nm (x), 595 nm (y)
+and 610 nm (x).
 """
 
-LENGTH = 81
+LENGTHS = {5: 81, 10: 41}  # how many rows, 380 to 780 nm, by the spacing in nm
 
 # nm, x, y, z, A, D65
 ROWS = (
@@ -95,7 +96,20 @@ WAVELENGTHS, X_COLUMN, Y_COLUMN, Z_COLUMN, ILLUMINANT_A, ILLUMINANT_D65 = zip(*R
 OBSERVER = (X_COLUMN, Y_COLUMN, Z_COLUMN)
 LIGHTS = {1: ILLUMINANT_A, 2: ILLUMINANT_D65}
 
-assert WAVELENGTHS == tuple(range(380, 785, 5)) and len(ROWS) == LENGTH
+
+def at_spacing(spacing, column):
+    """Every row at 5 nm, every second one at 10 nm, from 380 nm on."""
+    return column[::spacing // 5]
+
+
+def light_tables(light, spacing):
+    """A built-in light's illuminant and the observer's columns."""
+    return tuple(at_spacing(spacing, column) for column in (LIGHTS[light], *OBSERVER))
+
+
+for spacing, length in LENGTHS.items():
+    assert at_spacing(spacing, WAVELENGTHS) == tuple(range(380, 781, spacing))
+    assert len(at_spacing(spacing, ROWS)) == length
 assert tuple(sum(column) for column in OBSERVER) == (21371524, 21371327, 21371540)
 assert Z_COLUMN[WAVELENGTHS.index(465)] == 1528100
 assert X_COLUMN[WAVELENGTHS.index(515)] == 29100

@@ -1,4 +1,5 @@
 pub mod Tests
+pub mod Sizes
 pub mod Rules
 pub mod Outcomes
 pub mod Whole

@@ -1,5 +1,5 @@
 -- What a read answers and leaves, by the tests that led there: the first check that holds decides both. Assumes nothing.
-use mathlib.Core.Path.{_≡_, ap, _∙_}
+use mathlib.Core.Path.{_≡_, sym, ap, _∙_}
 use mathlib.Core.Bool.{true, false}
 use Prim.Native.Nat.{ℕ, _≤_, _<_}
 use native.Mathlib.Omega.{arith}
@@ -7,44 +7,50 @@ use mathlib.Core.List.{List}
 use lib.ListN.{length}
 use borrow.Author.Tests.{eq-eqb, ne-eqb}
 use Rattle.causes.specs.declared.Cause.{Cause}
-use Rattle.causes.specs.declared.Cause.the-variants.{ShortTable, NotABook, NoSuchShade}
+use Rattle.causes.specs.declared.Cause.the-variants.{ShortTable, NotABook, NoSuchShade, UnknownSpacing}
 use Rattle.causes.specs.declared.Checked.the-variants.{Clear, Because}
 use Rattle.causes.specs.Causes.{causeNumber, accepted, refused}
 use Rattle.causes.specs.Checks.{firstOf, unless}
+use Rattle.cie.specs.Spacing.{unknownSpacing, rowsAt}
 use Rattle.book.specs.Book.{numbersOf, countOf, readingsOf, isBook, indexOf, spectrumOf, shadeOf}
 use Rattle.book.specs.Reading.{readChecks, found, placesAfterRead}
 use Rattle.book.proofs.Tests.{in-list, not-in-list}
 use Rattle.book.proofs.Rules.{length-numbersOf}
 
--- the reader's checks, in its order
-module _ (rows : ℕ) (s : List ℕ) (k places : ℕ) where
-  pub short-places : (places ≡ rows → ⊥) → firstOf (readChecks rows s k places) ≡ Because ShortTable
+-- the reader's checks, in its order; rows is what the code has of the spacing
+module _ (spacing : ℕ) (s : List ℕ) (k places : ℕ) where
+  pub unknown-spacing : unknownSpacing spacing ≡ true → firstOf (readChecks spacing s k places) ≡ Because UnknownSpacing
   unfolding firstOf readChecks
-  short-places h = rw (ne-eqb places rows h)
+  unknown-spacing h = rw h
 
-  module _ (room : places ≡ rows) where
-    pub not-a-book : isBook rows s ≡ false → firstOf (readChecks rows s k places) ≡ Because NotABook
+  module _ (known : unknownSpacing spacing ≡ false) {rows : ℕ} (at : rows ≡ rowsAt spacing) where
+    pub short-places : (places ≡ rows → ⊥) → firstOf (readChecks spacing s k places) ≡ Because ShortTable
     unfolding firstOf readChecks
-    not-a-book h = rw (eq-eqb places rows room, h)
+    short-places h = rw (known, ne-eqb places (rowsAt spacing) (λ e. h (e ∙ sym at)))
 
-    module _ (book : isBook rows s ≡ true) {i n : ℕ} (p : i ≡ indexOf k (numbersOf s)) (q : n ≡ countOf s) where
-      pub no-such-shade : n ≤ i → firstOf (readChecks rows s k places) ≡ Because NoSuchShade
+    module _ (room : places ≡ rows) where
+      pub not-a-book : isBook rows s ≡ false → firstOf (readChecks spacing s k places) ≡ Because NotABook
       unfolding firstOf readChecks
-      no-such-shade h = rw (eq-eqb places rows room, book, not-in-list k (numbersOf s) (omega (arith, length-numbersOf s)))
+      not-a-book h = rw (known, ← at, eq-eqb places rows room, h)
 
-      pub reads : i < n → firstOf (readChecks rows s k places) ≡ Clear
-      unfolding firstOf readChecks
-      reads h = rw (eq-eqb places rows room, book, in-list k (numbersOf s) (omega (arith, length-numbersOf s)))
+      module _ (book : isBook rows s ≡ true) {i n : ℕ} (p : i ≡ indexOf k (numbersOf s)) (q : n ≡ countOf s) where
+        pub no-such-shade : n ≤ i → firstOf (readChecks spacing s k places) ≡ Because NoSuchShade
+        unfolding firstOf readChecks
+        no-such-shade h = rw (known, ← at, eq-eqb places rows room, book, not-in-list k (numbersOf s) (omega (arith, length-numbersOf s)))
+
+        pub reads : i < n → firstOf (readChecks spacing s k places) ≡ Clear
+        unfolding firstOf readChecks
+        reads h = rw (known, ← at, eq-eqb places rows room, book, in-list k (numbersOf s) (omega (arith, length-numbersOf s)))
 
 -- a read that is refused, and one that is accepted
-module _ (rows : ℕ) (s : List ℕ) (k : ℕ) (d : List ℕ) where
-  pub read-refused : (c : Cause) → firstOf (readChecks rows s k (length d)) ≡ Because c
-      → (refused (causeNumber c) ≡ found rows s k (length d)) × (d ≡ placesAfterRead rows s k d)
+module _ (spacing : ℕ) (s : List ℕ) (k : ℕ) (d : List ℕ) where
+  pub read-refused : (c : Cause) → firstOf (readChecks spacing s k (length d)) ≡ Because c
+      → (refused (causeNumber c) ≡ found spacing s k (length d)) × (d ≡ placesAfterRead spacing s k d)
   unfolding found placesAfterRead unless
   read-refused c e = (rw e, rw e)
 
-  pub read-accepted : firstOf (readChecks rows s k (length d)) ≡ Clear → {i : ℕ} → i ≡ indexOf k (numbersOf s)
+  pub read-accepted : firstOf (readChecks spacing s k (length d)) ≡ Clear → {rows : ℕ} → rows ≡ rowsAt spacing → {i : ℕ} → i ≡ indexOf k (numbersOf s)
       → {after : List ℕ} → after ≡ spectrumOf rows (readingsOf rows s) i
-      → (accepted 0 ≡ found rows s k (length d)) × (after ≡ placesAfterRead rows s k d)
+      → (accepted 0 ≡ found spacing s k (length d)) × (after ≡ placesAfterRead spacing s k d)
   unfolding found placesAfterRead unless shadeOf
-  read-accepted e p filled = (rw e, rw e (filled ∙ ap (spectrumOf rows (readingsOf rows s)) p))
+  read-accepted e {rows} at p filled = (rw e, rw (e, ← at) (filled ∙ ap (spectrumOf rows (readingsOf rows s)) p))

@@ -5,15 +5,15 @@ use Prim.Native.Nat.{ℕ, suc, _+_, _*_, _≤_, _<_}
 use native.Mathlib.Omega.{arith}
 use native.Mathlib.Nat.{mul-zero}
 use native.Mathlib.Numerals.{add-one}
-use mathlib.Core.List.{List, [], _∷_}
-use lib.ListN.{length, getD, drop, drop-of-length-le}
-use lib.Seq.{drop-cons}
+use mathlib.Core.List.{List, [], _∷_, _++_}
+use lib.ListN.{length, getD, take, drop, length-append, drop-of-length-le}
+use lib.Seq.{drop-cons, take-at, length-take-le}
 use lib.Dec.{eqb}
 use borrow.Author.Tests.{lt-ltb, le-ltb, eq-eqb, ne-eqb, not-true, not-false}
 use Rattle.cie.specs.Scales.{anyAbove}
 use Rattle.cie.proofs.Scales.{above-append}
 use Rattle.endian.specs.Bytes.{at16, at32, words}
-use Rattle.endian.proofs.Words.{words-add}
+use Rattle.endian.proofs.Words.{length-words, words-add}
 use Rattle.book.specs.Book.{entryLength, bodyLength, startsWith, entryOk, entriesOk, isIn, indexOf}
 
 -- the arms of `if !f(x)`, where f ensures what its result is
@@ -45,15 +45,15 @@ module _ (rows : ℕ) (s : List ℕ) (at before offset : ℕ) {k : ℕ} (p : k �
   unfolding entryOk
   entry-low h = rw (le-ltb before (at16 s at) (omega arith))
 
-  module _ (h : before < k) {l : ℕ} (q : l ≡ at16 s (at + 2)) where
-    pub entry-long : (l ≡ bodyLength rows → ⊥) → false ≡ entryOk rows s at before offset
+  module _ (h : before < k) {l b : ℕ} (q : l ≡ at16 s (at + 2)) (r : b ≡ bodyLength rows) where
+    pub entry-other : (l ≡ b → ⊥) → false ≡ entryOk rows s at before offset
     unfolding entryOk
-    entry-long g = rw (lt-ltb before (at16 s at) (omega arith), ne-eqb (at16 s (at + 2)) (bodyLength rows) (λ e. g (q ∙ e)))
+    entry-other g = rw (lt-ltb before (at16 s at) (omega arith), ne-eqb (at16 s (at + 2)) (bodyLength rows) (λ e. g (q ∙ e ∙ sym r)))
 
-    pub entry-last : l ≡ bodyLength rows → {o : ℕ} → o ≡ at32 s (at + 4) → eqb o offset ≡ entryOk rows s at before offset
+    pub entry-last : l ≡ b → {o : ℕ} → o ≡ at32 s (at + 4) → eqb o offset ≡ entryOk rows s at before offset
     unfolding entryOk
-    entry-last g {o} r =
-        rw (lt-ltb before (at16 s at) (omega arith), eq-eqb (at16 s (at + 2)) (bodyLength rows) (sym q ∙ g)) (ap (λ (x : ℕ). eqb x offset) r)
+    entry-last g {o} e =
+        rw (lt-ltb before (at16 s at) (omega arith), eq-eqb (at16 s (at + 2)) (bodyLength rows) (sym q ∙ g ∙ r)) (ap (λ (x : ℕ). eqb x offset) e)
 
 -- the entries
 module _ (rows : ℕ) (s : List ℕ) (at before offset m : ℕ) {n : ℕ} (more : n ≡ suc m) where
@@ -62,12 +62,14 @@ module _ (rows : ℕ) (s : List ℕ) (at before offset m : ℕ) {n : ℕ} (more 
   unfolding entriesOk
   entries-first = ap (λ (k : ℕ). entriesOk rows s at before offset k) more
 
-  pub entries-off : entryOk rows s at before offset ≡ false → false ≡ entriesOk rows s at before offset n
-  entries-off h = rw (entries-first, h)
+  pub entries-off : {right : Bool} → right ≡ entryOk rows s at before offset → not right ≡ true → false ≡ entriesOk rows s at before offset n
+  entries-off e t = rw (entries-first, fails e t)
 
-  pub entries-on : entryOk rows s at before offset ≡ true → {k : ℕ} → k ≡ at16 s at
-      → entriesOk rows s (at + entryLength) k (offset + bodyLength rows) m ≡ entriesOk rows s at before offset n
-  entries-on h p = rw (entries-first, h) (ap (λ (x : ℕ). entriesOk rows s (at + entryLength) x (offset + bodyLength rows) m) p)
+  pub entries-on : {right : Bool} → right ≡ entryOk rows s at before offset → not right ≡ false → {k b : ℕ} → k ≡ at16 s at → b ≡ bodyLength rows
+      → entriesOk rows s (at + entryLength) k (offset + b) m ≡ entriesOk rows s at before offset n
+  entries-on e t {k} {b} p q =
+      ap (λ (x : ℕ). entriesOk rows s (at + entryLength) x (offset + b) m) p
+      ∙ rw (entries-first, holds e t) (ap (λ (x : ℕ). entriesOk rows s (at + entryLength) (at16 s at) (offset + x) m) q)
 
 pub entries-end : (rows : ℕ) (s : List ℕ) (at before offset n : ℕ) → n ≤ 0 → true ≡ entriesOk rows s at before offset n
 unfolding entriesOk
@@ -81,9 +83,9 @@ module _ (limit rows : ℕ) (s : List ℕ) (at m : ℕ) {n : ℕ} (more : n ≡ 
       ap (λ (k : ℕ). anyAbove limit (words s at 2 k)) e ∙ ap (anyAbove limit) (words-add s rows (rows * m) at 2)
       ∙ above-append limit (words s at 2 rows) (words s (at + bodyLength rows) 2 (rows * m))
 
-  pub bodies-on : anyAbove limit (words s at 2 rows) ≡ false
-      → anyAbove limit (words s (at + bodyLength rows) 2 (rows * m)) ≡ anyAbove limit (words s at 2 (rows * n))
-  bodies-on h = rw (bodies-first, h)
+  pub bodies-on : anyAbove limit (words s at 2 rows) ≡ false → {b : ℕ} → b ≡ bodyLength rows
+      → anyAbove limit (words s (at + b) 2 (rows * m)) ≡ anyAbove limit (words s at 2 (rows * n))
+  bodies-on h q = rw (bodies-first, h) (ap (λ (x : ℕ). anyAbove limit (words s (at + x) 2 (rows * m))) q)
 
   pub bodies-off : anyAbove limit (words s at 2 rows) ≡ true → true ≡ anyAbove limit (words s at 2 (rows * n))
   bodies-off h = rw (bodies-first, h)
@@ -91,6 +93,23 @@ module _ (limit rows : ℕ) (s : List ℕ) (at m : ℕ) {n : ℕ} (more : n ≡ 
 pub bodies-end : (limit rows : ℕ) (s : List ℕ) (at n : ℕ) → n ≤ 0 → false ≡ anyAbove limit (words s at 2 (rows * n))
 unfolding anyAbove words
 bodies-end limit rows s at n h = let z : n ≡ 0 = omega arith in let e : rows * n ≡ 0 = ap (λ (k : ℕ). rows * k) z ∙ mul-zero rows in rw e
+
+-- a body read into the front of an array: the front is as long as the rows, and holds the body
+module _ (s : List ℕ) (at rows : ℕ) (array : List ℕ) (h : rows ≤ length array) where
+  pub front-length : rows ≡ length (take rows array)
+  front-length = sym (length-take-le rows array h)
+
+  module _ {front : List ℕ} (e : front ≡ words s at 2 (length (take rows array))) where
+    pub front-read : take rows (front ++ drop rows array) ≡ words s at 2 rows
+    front-read =
+        let f : front ≡ words s at 2 rows = e ∙ ap (words s at 2) (sym front-length) in
+        take-at front (drop rows array) rows (ap length f ∙ length-words s at 2 rows) ∙ f
+
+    pub front-kept : rows ≡ length (take rows (front ++ drop rows array))
+    front-kept = sym (ap length front-read ∙ length-words s at 2 rows)
+
+    pub front-within : rows ≤ length (front ++ drop rows array)
+    front-within = omega (arith, length-append front (drop rows array), ap length e, length-words s at 2 (length (take rows array)), front-length)
 
 -- the place of a number
 module _ (l : List ℕ) (i k : ℕ) (h : i < length l) where

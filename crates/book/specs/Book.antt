@@ -1,9 +1,11 @@
--- Document 01, "Shade book": the layout, with the rows of a body as a parameter. Assumes nothing.
-use Prim.Native.Nat.{ℕ, zero, suc, _+_, _*_}
+-- Document 01, "Shade book", at any number of rows: 81, and by document 02 also 41. "A book holds one spacing, with body length 162 or 82
+-- throughout". Assumes nothing.
+use Prim.Native.Nat.{ℕ, zero, suc, _+_, _*_, _≤_}
 use mathlib.Core.Bool.{Bool, true, false, _&&_, _||_, not, cond}
 use mathlib.Core.List.{List, [], _∷_, _++_}
 use lib.ListN.{length, take, drop}
 use lib.Dec.{leb, ltb, eqb}
+use Rattle.cie.specs.Spacing.{spectrumBytes}
 use Rattle.cie.specs.Scales.{anyAbove, readingLimit}
 use Rattle.endian.specs.Bytes.{le16, le32, at16, at32, words, bytesOf}
 
@@ -25,15 +27,15 @@ mostShades = 200
 abbrev pub entryLength : ℕ
 entryLength = 8
 
--- "Each body is 81 readings of 2 bytes": twice the rows
+-- "Each body is 81 readings of 2 bytes", or 41: 162 bytes or 82
 abbrev pub bodyLength : ℕ → ℕ
-bodyLength rows = 2 * rows
+bodyLength rows = spectrumBytes rows
 
 -- where the bodies of n shades begin
 abbrev pub bodiesAt : ℕ → ℕ
 bodiesAt n = headLength + entryLength * n
 
--- "Total 6 + 170n bytes."
+-- "Total 6 + 170n bytes.", or 6 + 90n
 abbrev pub total : ℕ → ℕ → ℕ
 total rows n = headLength + (entryLength + bodyLength rows) * n
 
@@ -42,7 +44,7 @@ unfoldable pub rising : ℕ → List ℕ → Bool
 rising before [] = true
 rising before (x ∷ xs) = ltb before x && rising x xs
 
--- "shade number (2 ..), body length (2, always 162), body offset from the file's first byte (4)"
+-- "shade number (2 ..), body length (2 ..), body offset from the file's first byte (4)"
 unfoldable pub entryOf : ℕ → ℕ → ℕ → List ℕ
 entryOf rows number offset = le16 number ++ (le16 (bodyLength rows) ++ le32 offset)
 
@@ -69,13 +71,21 @@ readingsIn rows s n = words s (bodiesAt n) 2 (rows * n)
 abbrev pub readingsOf : ℕ → List ℕ → List ℕ
 readingsOf rows s = readingsIn rows s (countOf s)
 
+-- the body length that the i-th entry names, from 0
+abbrev pub bodyLengthAt : List ℕ → ℕ → ℕ
+bodyLengthAt s i = at16 s (headLength + entryLength * i + 2)
+
+-- "The listing goes by the first body length.": 0 where the bytes end before the first entry does, as those of an empty book
+unfoldable pub firstBodyLength : List ℕ → ℕ
+firstBodyLength s = cond (leb (bodiesAt 1) (length s)) (bodyLengthAt s 0) 0
+
 -- whether bytes begin with a text
 unfoldable pub startsWith : List ℕ → List ℕ → Bool
 startsWith [] s = true
 startsWith (x ∷ xs) [] = false
 startsWith (x ∷ xs) (y ∷ ys) = eqb y x && startsWith xs ys
 
--- whether the entry at a place has a number above the one before it, the body length, and the offset that is due
+-- whether the entry at a place has a number above the one before it, the body length of the rows, and the offset that is due
 unfoldable pub entryOk : ℕ → List ℕ → ℕ → ℕ → ℕ → Bool
 entryOk rows s at before offset =
     ltb before (at16 s at) && eqb (at16 s (at + 2)) (bodyLength rows) && eqb (at32 s (at + 4)) offset
@@ -95,6 +105,11 @@ isBook rows s =
     && eqb (length s) (total rows (countOf s))
     && entriesOk rows s headLength 0 (bodiesAt (countOf s)) (countOf s)
     && not (anyAbove readingLimit (readingsOf rows s))
+
+-- bytes that have room for the contents, whatever the rows: every book's have
+pub record Contents (s : List ℕ) : Type 0 where
+  pub few : countOf s ≤ mostShades
+  pub within : bodiesAt (countOf s) ≤ length s
 
 -- whether a number is in a list
 unfoldable pub isIn : ℕ → List ℕ → Bool

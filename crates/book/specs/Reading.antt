@@ -1,12 +1,13 @@
--- Document 01, "Shade book": what a read answers and what it leaves, refusals included. Assumes nothing.
+-- Document 01, "Shade book": what a read at a spacing answers and what it leaves, refusals included. Assumes nothing.
 use Prim.Native.Nat.{ℕ}
 use mathlib.Core.Bool.{not}
 use mathlib.Core.List.{List, [], _∷_}
 use lib.ListN.{length}
 use lib.Dec.{eqb}
-use Rattle.causes.specs.declared.Cause.the-variants.{ShortTable, NotABook, NoSuchShade}
+use Rattle.causes.specs.declared.Cause.the-variants.{ShortTable, NotABook, NoSuchShade, UnknownSpacing}
 use Rattle.causes.specs.Causes.{Numbered, accepted, refusal}
 use Rattle.causes.specs.Checks.{Check, check, firstOf, unless, numbered}
+use Rattle.cie.specs.Spacing.{unknownSpacing, rowsAt}
 use Rattle.book.specs.Book.{numbersOf, isBook, isIn, shadeOf}
 use Rattle.book.specs.declared.Found.{Found}
 use Rattle.book.specs.declared.Found.the-variants.{Read, Refused}
@@ -16,17 +17,18 @@ abbrev pub readAnswer : Found → Numbered ℕ
 readAnswer Read = accepted 0
 readAnswer (Refused cause) = refusal cause
 
--- "Read one shade into 81 places: 1, 11, 12."
+-- "Read one shade into 81 places: 1, 11, 12.", or into 41; before them 17, "checked first in every call that names one"
 unfoldable pub readChecks : ℕ → List ℕ → ℕ → ℕ → List Check
-readChecks rows book number places =
-    check (not (eqb places rows)) ShortTable
-    ∷ check (not (isBook rows book)) NotABook
+readChecks spacing book number places =
+    check (unknownSpacing spacing) UnknownSpacing
+    ∷ check (not (eqb places (rowsAt spacing))) ShortTable
+    ∷ check (not (isBook (rowsAt spacing) book)) NotABook
     ∷ check (not (isIn number (numbersOf book))) NoSuchShade
     ∷ []
 
 unfoldable pub found : ℕ → List ℕ → ℕ → ℕ → Numbered ℕ
-found rows book number places = numbered (firstOf (readChecks rows book number places)) 0
+found spacing book number places = numbered (firstOf (readChecks spacing book number places)) 0
 
 unfoldable pub placesAfterRead : ℕ → List ℕ → ℕ → List ℕ → List ℕ
-placesAfterRead rows book number places =
-    unless (firstOf (readChecks rows book number (length places))) (λ _. places) (shadeOf rows book number)
+placesAfterRead spacing book number places =
+    unless (firstOf (readChecks spacing book number (length places))) (λ _. places) (shadeOf (rowsAt spacing) book number)

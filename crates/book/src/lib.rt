@@ -3,10 +3,8 @@ pub mod layout;
 pub mod reader;
 
 use causes::Cause;
-use layout::ROWS;
 ghost use mathlib.Core.Path.{_≡_};
 ghost use lib.ListN.{length};
-ghost use Rattle.cie.specs.Scales.{rows};
 ghost use Rattle.book.specs.Reading.{readAnswer, found, placesAfterRead};
 
 // What a read answers: that the places hold the shade's readings, or a cause.
@@ -15,15 +13,19 @@ pub enum Found {
     Refused(Cause),
 }
 
-// Reads the shade of a number into 81 places.
-pub fn read(book: &[u8], number: u16, places: &mut [u16]) -> Found
-    ensures { λ r. ⌜ readAnswer r ≡ found rows (now (book .entry)) number (length (now (places .entry))) ⌝ }
-    ensures { λ _. ⌜ now (places .exit) ≡ placesAfterRead rows (now (book .entry)) number (now (places .entry)) ⌝ }
+// Reads the shade of a number into as many places as the spacing has rows.
+pub fn read(spacing: u32, book: &[u8], number: u16, places: &mut [u16]) -> Found
+    ensures { λ r. ⌜ readAnswer r ≡ found spacing (now (book .entry)) number (length (now (places .entry))) ⌝ }
+    ensures { λ _. ⌜ now (places .exit) ≡ placesAfterRead spacing (now (book .entry)) number (now (places .entry)) ⌝ }
 {
-    if places.len() != ROWS {
+    if cie::spacing::is_unknown(spacing) {
+        return Found::Refused(Cause::UnknownSpacing);
+    }
+    let rows = cie::spacing::rows_at(spacing);
+    if places.len() != rows {
         return Found::Refused(Cause::ShortTable);
     }
-    if !reader::is_book(book) {
+    if !reader::is_book(book, rows) {
         return Found::Refused(Cause::NotABook);
     }
     let i = reader::find(book, number);

@@ -29,26 +29,27 @@ length-bookOf rows ns rs =
     let c : List ℕ = contentsOf rows (bodiesAt (length ns)) ns in
     omega (arith, length-append c (bytesOf rs), length-contentsOf rows (bodiesAt (length ns)) ns, length-bytesOf rs)
 
--- the three stores of an entry
-pub entry-stores : (rows : ℕ) (d : List ℕ) (at k o : ℕ)
-    → sets (sets (sets d at (le16 k)) (at + 2) (le16 (bodyLength rows))) (at + 4) (le32 o) ≡ sets d at (entryOf rows k o)
+-- the three stores of an entry; here and below b is the body length that the code has
+pub entry-stores : (rows : ℕ) (d : List ℕ) (at k o : ℕ) {b : ℕ} → b ≡ bodyLength rows
+    → sets (sets (sets d at (le16 k)) (at + 2) (le16 b)) (at + 4) (le32 o) ≡ sets d at (entryOf rows k o)
 unfolding entryOf
-entry-stores rows d at k o =
-    let b : List ℕ = le16 (bodyLength rows) in
-    let four : length (le16 k ++ b) ≡ 4 = omega (arith, length-append (le16 k) b, length-littleEndian 2 k, length-littleEndian 2 (bodyLength rows)) in
-    ap (λ (l : List ℕ). sets l (at + 4) (le32 o)) (sets-then d at 2 (le16 k) b (length-littleEndian 2 k))
-    ∙ sets-then d at 4 (le16 k ++ b) (le32 o) four
-    ∙ ap (λ (l : List ℕ). sets d at l) (append-assoc (le16 k) b (le32 o))
+entry-stores rows d at k o {b} q =
+    let four : length (le16 k ++ le16 b) ≡ 4 = omega (arith, length-append (le16 k) (le16 b), length-littleEndian 2 k, length-littleEndian 2 b) in
+    ap (λ (l : List ℕ). sets l (at + 4) (le32 o)) (sets-then d at 2 (le16 k) (le16 b) (length-littleEndian 2 k))
+    ∙ sets-then d at 4 (le16 k ++ le16 b) (le32 o) four
+    ∙ ap (λ (l : List ℕ). sets d at l) (append-assoc (le16 k) (le16 b) (le32 o))
+    ∙ ap (λ (x : ℕ). sets d at (le16 k ++ (le16 x ++ le32 o))) q
 
--- one turn of the loop that stores the entries, and its end
+-- one turn of the loop that stores the entries, and its end; d′ is what the entry's stores left
 pub contents-store : (rows : ℕ) (d : List ℕ) (at i offset : ℕ) (l : List ℕ) → i < length l
-    → sets (sets d at (entryOf rows (getD l i 0) offset)) (at + entryLength) (contentsOf rows (offset + bodyLength rows) (drop (i + 1) l))
-    ≡ sets d at (contentsOf rows offset (drop i l))
+    → {d′ : List ℕ} → d′ ≡ sets d at (entryOf rows (getD l i 0) offset) → {b : ℕ} → b ≡ bodyLength rows
+    → sets d′ (at + entryLength) (contentsOf rows (offset + b) (drop (i + 1) l)) ≡ sets d at (contentsOf rows offset (drop i l))
 unfolding contentsOf
-contents-store rows d at i offset l h =
+contents-store rows d at i offset l h s {b} q =
     let e : List ℕ = entryOf rows (getD l i 0) offset in
-    let rest : List ℕ = contentsOf rows (offset + bodyLength rows) (drop (i + 1) l) in
-    sets-then d at entryLength e rest (length-entryOf rows (getD l i 0) offset)
+    ap (λ (r : List ℕ). sets r (at + entryLength) (contentsOf rows (offset + b) (drop (i + 1) l))) s
+    ∙ sets-then d at entryLength e (contentsOf rows (offset + b) (drop (i + 1) l)) (length-entryOf rows (getD l i 0) offset)
+    ∙ ap (λ (x : ℕ). sets d at (e ++ contentsOf rows (offset + x) (drop (i + 1) l))) q
     ∙ rw (drop-cons l i 0 h, add-one)
 
 pub contents-stored : (rows : ℕ) (d : List ℕ) (at i offset : ℕ) (l : List ℕ) → length l ≤ i → sets d at (contentsOf rows offset (drop i l)) ≡ d
@@ -59,14 +60,15 @@ contents-stored rows d at i offset l h = rw (drop-of-length-le l h)
 -- writer left
 pub bodies-store : (rows : ℕ) (d : List ℕ) (at from m k : ℕ) (l ys : List ℕ)
     → at ≤ length d → from + rows ≤ length l → m ≡ rows → length d - at ≡ k → ys ≡ sets (take k (drop at d)) 0 (bytesOf (take m (drop from l)))
-    → sets (take at d ++ (ys ++ drop k (drop at d))) (at + bodyLength rows) (bytesOf (drop (from + rows) l)) ≡ sets d at (bytesOf (drop from l))
-bodies-store rows d at from m k l ys h f e g q =
-    let b : List ℕ = bytesOf (take m (drop from l)) in
+    → {b : ℕ} → b ≡ bodyLength rows
+    → sets (take at d ++ (ys ++ drop k (drop at d))) (at + b) (bytesOf (drop (from + rows) l)) ≡ sets d at (bytesOf (drop from l))
+bodies-store rows d at from m k l ys h f e g s {b} q =
+    let body : List ℕ = bytesOf (take m (drop from l)) in
     let rest : List ℕ = bytesOf (drop (from + rows) l) in
     let n : length (take m (drop from l)) ≡ rows = length-take-le m (drop from l) (omega (arith, length-drop from l)) ∙ e in
-    ap (λ (r : List ℕ). sets (take at d ++ (r ++ drop k (drop at d))) (at + bodyLength rows) rest) q
-    ∙ ap (λ (r : List ℕ). sets r (at + bodyLength rows) rest) (sets-part d at k b h g)
-    ∙ sets-then d at (bodyLength rows) b rest (omega (arith, length-bytesOf (take m (drop from l))))
+    ap (λ (r : List ℕ). sets (take at d ++ (r ++ drop k (drop at d))) (at + b) rest) s
+    ∙ ap (λ (r : List ℕ). sets r (at + b) rest) (sets-part d at k body h g)
+    ∙ sets-then d at b body rest (omega (arith, length-bytesOf (take m (drop from l))))
     ∙ ap (λ (r : ℕ). sets d at (bytesOf (take r (drop from l)) ++ rest)) e
     ∙ ap (λ (r : List ℕ). sets d at r) (sym (bytesOf-split rows from l))
 

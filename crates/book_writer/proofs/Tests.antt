@@ -1,7 +1,9 @@
 -- The tests of the shades to be written: what is left, tested from here, decides as the whole does. Assumes nothing.
-use mathlib.Core.Path.{_≡_, refl}
+use mathlib.Core.Path.{_≡_, refl, sym, ap, _∙_}
 use mathlib.Core.Bool.{Bool, true, false, _&&_}
-use Prim.Native.Nat.{ℕ, _+_, _≤_, _<_}
+use Prim.Native.Nat.{ℕ, _+_, _*_, _/_, _%_, _≤_, _<_}
+use native.Mathlib.Omega.{arith}
+use native.Mathlib.Nat.{div-add-mod, mul-mod-right, mul-div-cancel-left}
 use native.Mathlib.Numerals.{add-one}
 use mathlib.Core.List.{List}
 use lib.ListN.{length, getD, drop, drop-of-length-le}
@@ -17,6 +19,17 @@ eqb-same a b c d f g = go (eqb c d) refl
     go : (t : Bool) → eqb c d ≡ t → eqb a b ≡ t
     go true e = eq-eqb a b (g (eqb-true c d e))
     go false e = ne-eqb a b (λ h. eqb-false c d e (f h))
+
+-- k readings are so many for each of n shades where the rows divide them and the quotient is n
+module _ (rows n k : ℕ) where
+  pub not-filled : (k % rows ≡ 0 → ⊥) → false ≡ eqb k (rows * n)
+  not-filled h = sym (ne-eqb k (rows * n) (λ e. h (ap (λ (x : ℕ). x % rows) e ∙ mul-mod-right rows n)))
+
+  pub filled-by : 0 < rows → k % rows ≡ 0 → eqb (k / rows) n ≡ eqb k (rows * n)
+  filled-by some h =
+      eqb-same (k / rows) n k (rows * n)
+      (λ e. omega (arith, div-add-mod k rows, ap (λ (x : ℕ). rows * x) e))
+      (λ e. ap (λ (x : ℕ). x / rows) e ∙ mul-div-cancel-left n some)
 
 -- numbers that rise
 module _ (l : List ℕ) (i before : ℕ) (h : i < length l) where

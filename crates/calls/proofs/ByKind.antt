@@ -20,10 +20,10 @@ module _ {s : Session} {r : Served} where
   meets-as : {c c′ : Call} → c ≡ c′ → Meets s c r → Meets s c′ r
   meets-as e m = subst (λ (c : Call). Meets s c r) e m
 
-  pub opens-tables : (pool words : List ℕ) {i x y z : List ℕ}
+  pub opens-tables : (pool words : List ℕ) {spacing : ℕ} {i x y z : List ℕ} → spacing ≡ wordAt words 9
       → i ≡ partAt pool words 1 → x ≡ partAt pool words 3 → y ≡ partAt pool words 5 → z ≡ partAt pool words 7
-      → Meets s (open-tables (tablesOf i x y z)) r → Meets s (open-tables (tablesAt pool words)) r
-  opens-tables pool words p q u v m = meets-as (λ j. open-tables (tablesOf (p j) (q j) (u j) (v j))) m
+      → Meets s (open-tables (tablesOf spacing i x y z)) r → Meets s (open-tables (tablesAt pool words)) r
+  opens-tables pool words e p q u v m = meets-as (λ j. open-tables (tablesOf (e j) (p j) (q j) (u j) (v j))) m
 
   module _ {words tables spectra : List ℕ} {kind : ℕ} (k : Kind words tables spectra kind) where
     -- the call of the kind n, which the arm makes
@@ -34,9 +34,10 @@ module _ {s : Session} {r : Served} where
     unfolding callOfKind
     by-tables e m = of-kind 1 e refl m
 
-    pub by-light : {light : ℕ} → kind ≡ 2 → light ≡ wordAt words 1 → Meets s (open-light light) r → Meets s (callOf words tables spectra) r
+    pub by-light : {light spacing : ℕ} → kind ≡ 2 → light ≡ wordAt words 1 → spacing ≡ wordAt words 2 → Meets s (open-light light spacing) r
+        → Meets s (callOf words tables spectra) r
     unfolding callOfKind
-    by-light e p m = of-kind 2 e (ap open-light p) m
+    by-light e p q m = of-kind 2 e (λ j. open-light (p j) (q j)) m
 
     pub by-standard : {readings : List ℕ} → kind ≡ 3 → readings ≡ partAt spectra words 1 → Meets s (set-standard readings) r
         → Meets s (callOf words tables spectra) r

@@ -1,8 +1,9 @@
 -- Calls and answers as records of 32-bit words. This is the one place where the records are laid out. Assumes nothing.
 --
--- A call is nine words. The first says which call it is:
---   1  open tables: the illuminant, x, y and z, each as a part of the pool of tables (words 1 2, 3 4, 5 6, 7 8: where it starts, how long it is)
---   2  open a built-in light: its number (word 1)
+-- A call is ten words. The first says which call it is:
+--   1  open tables: the illuminant, x, y and z, each as a part of the pool of tables (words 1 2, 3 4, 5 6, 7 8: where it starts, how long it is),
+--      and the spacing (word 9)
+--   2  open a built-in light: its number (word 1) and the spacing (word 2)
 --   3  standard: its readings, as a part of the pool of spectra (words 1 2)
 --   4  tolerance in CIELAB: the amount (word 1)
 --   5  tolerance in CIELUV: the amount (word 1)
@@ -43,7 +44,7 @@ use Rattle.session.specs.Call.{Call, open-tables, open-light, set-standard, set
 use Rattle.session.specs.Outcome.{Outcome, accepted, coloured, tried, counted, seen, refused}
 
 abbrev pub callWords : ℕ
-callWords = 9
+callWords = 10
 
 abbrev pub answerWords : ℕ
 answerWords = 32
@@ -68,13 +69,13 @@ partAt pool words i = partOf pool (wordAt words i) (wordAt words (i + 1))
 
 -- the tables that a record names
 abbrev pub tablesAt : List ℕ → List ℕ → Tables
-tablesAt pool words = tablesOf (partAt pool words 1) (partAt pool words 3) (partAt pool words 5) (partAt pool words 7)
+tablesAt pool words = tablesOf (wordAt words 9) (partAt pool words 1) (partAt pool words 3) (partAt pool words 5) (partAt pool words 7)
 
 -- the call of a kind, with the other words of its record
 unfoldable pub callOfKind : ℕ → List ℕ → List ℕ → List ℕ → Call
 callOfKind kind words tables spectra =
     cond (eqb kind 1) (open-tables (tablesAt tables words))
-    (cond (eqb kind 2) (open-light (wordAt words 1))
+    (cond (eqb kind 2) (open-light (wordAt words 1) (wordAt words 2))
     (cond (eqb kind 3) (set-standard (partAt spectra words 1))
     (cond (eqb kind 4) (set-tolerance Cielab (wordAt words 1))
     (cond (eqb kind 5) (set-tolerance Cieluv (wordAt words 1))

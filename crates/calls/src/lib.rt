@@ -1,4 +1,4 @@
-// Runs a whole list of calls that is held in slices: nine words a call, with its tables and spectra as parts of two pools, and
+// Runs a whole list of calls that is held in slices: ten words a call, with its tables and spectra as parts of two pools, and
 // thirty-two words for each answer. specs/Records.antt lays the records out.
 ghost use mathlib.Core.Path.{_≡_};
 ghost use Prim.Native.Nat.{_+_, _<_};
@@ -21,7 +21,7 @@ pub enum Ran {
     Refused(Cause),
 }
 
-pub const CALL_WORDS: usize = 9;
+pub const CALL_WORDS: usize = 10;
 
 // The kinds of calls: a record's first word. Any other number is a report too.
 pub const REPORT: u32 = 0;
@@ -102,7 +102,7 @@ fn open_tables(s: Session, words: &[u32], tables: &[u32]) -> Served
     let x = table(tables, words, 3);
     let y = table(tables, words, 5);
     let z = table(tables, words, 7);
-    s.open_tables(illuminant, x, y, z)
+    s.open_tables(word(words, 9), illuminant, x, y, z)
 }
 
 // Makes the call of a record.
@@ -112,7 +112,7 @@ pub fn call(s: Session, words: &[u32], tables: &[u32], spectra: &[u16]) -> Serve
 {
     match word(words, 0) {
         OPEN_TABLES => open_tables(s, words, tables),
-        OPEN_LIGHT => s.open_light(word(words, 1)),
+        OPEN_LIGHT => s.open_light(word(words, 1), word(words, 2)),
         STANDARD => s.set_standard(spectrum(spectra, words)),
         TOLERANCE_LAB => s.set_tolerance(Space::Cielab, word(words, 1)),
         TOLERANCE_LUV => s.set_tolerance(Space::Cieluv, word(words, 1)),

@@ -1,4 +1,4 @@
-// The causes of a refusal: one for each row of document 01's table, under its word.
+// The causes of a refusal: one for each row of document 01's table, and for each error of document 02, under its word.
 ghost use mathlib.Core.Path.{_≡_};
 ghost use Rattle.causes.specs.Causes.{causeNumber};
 
@@ -19,6 +19,7 @@ pub enum Cause {
     OutOfOrder,
     ShortBuffer,
     NoSuchLight,
+    UnknownSpacing,
 }
 
 // What checks in an order find: nothing, or the cause of the first that holds.
@@ -48,5 +49,6 @@ pub fn number(cause: Cause) -> u32
         Cause::OutOfOrder => 14,
         Cause::ShortBuffer => 15,
         Cause::NoSuchLight => 16,
+        Cause::UnknownSpacing => 17,
     }
 }

@@ -1,6 +1,7 @@
 pub mod Marked
 pub mod TableChecks
 pub mod Scales
+pub mod TableRows
 pub mod Lengths
 pub mod Steps
 pub mod Whites

@@ -11,7 +11,8 @@ use Rattle.cie.specs.declared.Colour.{Colour}
 use Rattle.cie.specs.declared.Space.the-variants.{Cielab}
 use Rattle.cie.specs.declared.Verdict.{Verdict}
 use Rattle.cie.specs.declared.Verdict.the-variants.{Pass, Fail, OnTheLine}
-use Rattle.cie.specs.Sums.{Tables, rowSum, sumsOf, whiteOf}
+use Rattle.cie.specs.Spacing.{fineSpacing}
+use Rattle.cie.specs.Sums.{Tables, tablesOf, rowSum, sumsOf, whiteOf}
 use Rattle.cie.specs.Colour.{chromaticityOf, stepAt, lightnessAt, lAt, aAt, bAt, coordinate, uOf, vOf, chroma, colourOf, labDifference}
 use Rattle.cie.specs.Verdict.{margin, verdictOf}
 
@@ -23,7 +24,7 @@ pub data Value : Type 0 where
 
 -- group 3: "Illuminant 1 in the first three rows, else 0; x, y, z each 1 in row one, two, three respectively, else 0"
 abbrev conditions : Tables
-conditions = record { illuminant = 1 ∷ 1 ∷ 1 ∷ replicate 78 0; x = 1 ∷ replicate 80 0; y = 0 ∷ 1 ∷ replicate 79 0; z = 0 ∷ 0 ∷ 1 ∷ replicate 78 0 }
+conditions = tablesOf fineSpacing (1 ∷ 1 ∷ 1 ∷ replicate 78 0) (1 ∷ replicate 80 0) (0 ∷ 1 ∷ replicate 79 0) (0 ∷ 0 ∷ 1 ∷ replicate 78 0)
 
 abbrev colour : List ℕ → Colour
 colour readings = colourOf (whiteOf conditions) (sumsOf conditions readings)

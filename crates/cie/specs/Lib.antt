@@ -1,3 +1,4 @@
+pub mod Spacing
 pub mod Scales
 pub mod Tables
 pub mod Sums

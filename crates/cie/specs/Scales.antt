@@ -1,13 +1,9 @@
--- Document 01, "From readings to sums": how many rows there are, and how large their entries may be. Assumes nothing.
+-- Document 01, "From readings to sums": how large the entries of the rows may be. Assumes nothing.
 use mathlib.Core.Path.{_≡_}
 use mathlib.Core.Bool.{Bool, false, cond, _||_}
 use mathlib.Core.List.{List, [], _∷_}
 use Prim.Native.Nat.{ℕ}
 use lib.Dec.{ltb}
-
--- "A spectrum is 81 readings, 380 to 780 nm by 5 nm."
-abbrev pub rows : ℕ
-rows = 81
 
 -- "A reading is a reflectance in 1/10,000, from 0 to 20,000."
 abbrev pub readingLimit : ℕ

@@ -8,15 +8,16 @@ use lib.ListN.{length, replicate}
 use Rattle.cie.specs.declared.Sums.{Sums}
 use Rattle.cie.specs.Scales.{whiteReading}
 
--- an illuminant and the three columns of an observer
+-- an illuminant and the three columns of an observer, with the spacing of their rows
 pub record Tables : Type 0 where
+  pub spacing : ℕ
   pub illuminant : List ℕ
   pub x : List ℕ
   pub y : List ℕ
   pub z : List ℕ
 
-abbrev pub tablesOf : List ℕ → List ℕ → List ℕ → List ℕ → Tables
-tablesOf illuminant x y z = record { illuminant = illuminant; x = x; y = y; z = z }
+abbrev pub tablesOf : ℕ → List ℕ → List ℕ → List ℕ → List ℕ → Tables
+tablesOf spacing illuminant x y z = record { spacing = spacing; illuminant = illuminant; x = x; y = y; z = z }
 
 -- "the sum over the rows of reading × illuminant × x"
 unfoldable pub rowSum : List ℕ → List ℕ → List ℕ → ℕ

@@ -1,4 +1,5 @@
 // The standards of document 01: the types that they speak of and the tables that they print. The formulas are in specs/.
+pub mod spacing;
 pub mod spectrum;
 pub mod tables;
 

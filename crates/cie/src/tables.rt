@@ -1,6 +1,11 @@
 // The built-in tables, 81 rows each, 380 to 780 nm by 5 nm: the 1931 observer of GB/T 3977-2008 and the illuminants of CIE S 005.
 ghost use mathlib.Core.Path.{_≡_};
+ghost use lib.ListN.{length};
+ghost use Rattle.cie.specs.Spacing.{mostRows, filled};
 ghost use Rattle.cie.specs.Tables.{observerX, observerY, observerZ, illuminantA, illuminantD65};
+ghost use Rattle.cie.specs.Lights.{everySecond, tableAt};
+use crate::spacing::COARSE_ROWS;
+use crate::spacing::COARSE_SPACING;
 
 const OBSERVER_X: [u32; 81] = [
     1368,
@@ -422,37 +427,62 @@ const ILLUMINANT_D65: [u32; 81] = [
     633828,
 ];
 
-// The observer's column x, in 1/1,000,000.
-pub fn observer_x() -> [u32; 81]
-    ensures { λ r. ⌜ r ≡ observerX ⌝ }
+// Every second row of a table, from the first on, and zeros past the last.
+fn every_second(table: &[u32]) -> [u32; 81]
+    requires { ⌜ length (now table) ≡ mostRows ⌝ }
+    ensures { λ r. ⌜ r ≡ filled (everySecond (now (table .entry))) ⌝ }
 {
-    OBSERVER_X
+    let mut rows = [0u32; 81];
+    let mut i = 0;
+    while i < COARSE_ROWS {
+        rows[i] = table[2 * i];
+        i = i + 1;
+    }
+    rows
 }
 
-// The observer's column y, in 1/1,000,000.
-pub fn observer_y() -> [u32; 81]
-    ensures { λ r. ⌜ r ≡ observerY ⌝ }
+// The rows of a table at a spacing, and zeros past the last.
+fn table_at(table: [u32; 81], spacing: u32) -> [u32; 81]
+    requires { ⌜ length table ≡ mostRows ⌝ }
+    ensures { λ r. ⌜ r ≡ filled (tableAt spacing table) ⌝ }
 {
-    OBSERVER_Y
+    if spacing == COARSE_SPACING {
+        return every_second(&table);
+    }
+    table
 }
 
-// The observer's column z, in 1/1,000,000.
-pub fn observer_z() -> [u32; 81]
-    ensures { λ r. ⌜ r ≡ observerZ ⌝ }
+// The observer's column x at a spacing, in 1/1,000,000.
+pub fn observer_x(spacing: u32) -> [u32; 81]
+    ensures { λ r. ⌜ r ≡ filled (tableAt spacing observerX) ⌝ }
 {
-    OBSERVER_Z
+    table_at(OBSERVER_X, spacing)
 }
 
-// Illuminant A, in 1/10,000.
-pub fn illuminant_a() -> [u32; 81]
-    ensures { λ r. ⌜ r ≡ illuminantA ⌝ }
+// The observer's column y at a spacing, in 1/1,000,000.
+pub fn observer_y(spacing: u32) -> [u32; 81]
+    ensures { λ r. ⌜ r ≡ filled (tableAt spacing observerY) ⌝ }
 {
-    ILLUMINANT_A
+    table_at(OBSERVER_Y, spacing)
 }
 
-// Illuminant D65, in 1/10,000.
-pub fn illuminant_d65() -> [u32; 81]
-    ensures { λ r. ⌜ r ≡ illuminantD65 ⌝ }
+// The observer's column z at a spacing, in 1/1,000,000.
+pub fn observer_z(spacing: u32) -> [u32; 81]
+    ensures { λ r. ⌜ r ≡ filled (tableAt spacing observerZ) ⌝ }
 {
-    ILLUMINANT_D65
+    table_at(OBSERVER_Z, spacing)
+}
+
+// Illuminant A at a spacing, in 1/10,000.
+pub fn illuminant_a(spacing: u32) -> [u32; 81]
+    ensures { λ r. ⌜ r ≡ filled (tableAt spacing illuminantA) ⌝ }
+{
+    table_at(ILLUMINANT_A, spacing)
+}
+
+// Illuminant D65 at a spacing, in 1/10,000.
+pub fn illuminant_d65(spacing: u32) -> [u32; 81]
+    ensures { λ r. ⌜ r ≡ filled (tableAt spacing illuminantD65) ⌝ }
+{
+    table_at(ILLUMINANT_D65, spacing)
 }

@@ -9,6 +9,7 @@ use Rattle.causes.specs.Causes.{causeNumber, Numbered, accepted}
 use Rattle.causes.specs.Checks.{numbered}
 use Rattle.causes.proofs.Checks.{numbered-refused, numbered-accepted}
 use Rattle.cie.specs.declared.Sums.{Sums}
+use Rattle.cie.specs.Spacing.{rowsAt}
 use Rattle.cie.specs.Sums.{Tables, whiteOf}
 use Rattle.colour.specs.declared.white.WhitePoint.{WhitePoint}
 use Rattle.colour.specs.White.{whitePointOf}
@@ -16,7 +17,7 @@ use Rattle.conditions.specs.declared.Conditions.{Conditions}
 use Rattle.conditions.specs.declared.Prepared.{Prepared}
 use Rattle.conditions.specs.Weights.{weightsOf, dots, whiteReadings, Weights}
 use Rattle.conditions.specs.Conditions.{conditionsOf, checkedAnswer, conditionsIn, preparedOf, Sound, Prepares}
-use Rattle.conditions.proofs.Fits.{Fit, weights-fit}
+use Rattle.conditions.proofs.Fits.{Fit, matched, weights-fit}
 use Rattle.conditions.proofs.Sound.{white-same, sound-tables}
 
 -- a preparation that promises an answer promises whatever equals it
@@ -39,14 +40,15 @@ module _ (t : Tables) {x y z : List ℕ}
   pub weighed : Fit t → Weights x × Weights y × Weights z
   weighed f =
       let i = f .illuminant in
-      (subst Weights (sym p) (weights-fit i (f .x)), subst Weights (sym q) (weights-fit i (f .y)), subst Weights (sym r) (weights-fit i (f .z)))
+      let s = t .spacing in
+      (subst Weights (sym p) (weights-fit s i (f .x)), subst Weights (sym q) (weights-fit s i (f .y)), subst Weights (sym r) (weights-fit s i (f .z)))
 
   pub white-by : {w : Sums} → Fit t → w ≡ dots x y z whiteReadings → w ≡ whiteOf t
-  white-by f e = e ∙ rw (p, q, r) (white-same t (f .illuminant .length-is))
+  white-by f e = e ∙ rw (p, q, r) (white-same t (matched (t .spacing) (f .illuminant) (f .x) .0))
 
-  pub conditions-by : {w : Sums} {n : WhitePoint} → w ≡ whiteOf t → n ≡ whitePointOf w →
-      _≡_ {A = Conditions} (record { x = x; y = y; z = z; white = n }) (conditionsOf t)
-  conditions-by {w} {n} e f = let g : n ≡ whitePointOf (whiteOf t) = f ∙ ap whitePointOf e in cc
+  pub conditions-by : {rows : ℕ} {w : Sums} {n : WhitePoint} → rows ≡ rowsAt (t .spacing) → w ≡ whiteOf t → n ≡ whitePointOf w →
+      _≡_ {A = Conditions} (record { rows = rows; x = x; y = y; z = z; white = n }) (conditionsOf t)
+  conditions-by {w = w} {n = n} h e f = let g : n ≡ whitePointOf (whiteOf t) = f ∙ ap whitePointOf e in cc
 
 -- what an answer says of the checks behind it
 module _ (found : Checked) (k : Conditions) {p : Prepared} (e : Prepares (numbered found k) p) where

@@ -8,7 +8,8 @@ use native.Mathlib.Nat.{mul-le-mul, mul-le-mul-right, mul-assoc}
 use native.Mathlib.Numerals.{add-one}
 use lib.ListN.{length, getD, drop, replicate, getD-replicate}
 use lib.Seq.{drop-cons, drop-length}
-use Rattle.cie.specs.Scales.{rows, readingLimit, whiteReading, illuminantLimit, columnLimit, anyAbove}
+use Rattle.cie.specs.Spacing.{mostRows, filled}
+use Rattle.cie.specs.Scales.{readingLimit, whiteReading, illuminantLimit, columnLimit, anyAbove}
 use Rattle.cie.specs.Sums.{Tables, rowSum, sumsOf, whiteOf, AtMostTwice}
 use Rattle.cie.proofs.Scales.{below}
 use Rattle.conditions.specs.Weights.{productsOf, weightsOf, dot, dots, Spectrum, Weights}
@@ -38,8 +39,8 @@ ends-in-zeros (r ∷ rs) (w ∷ ws) n = ap (λ (k : ℕ). r * w + k) (ends-in-ze
 
 -- the sum by weights is the sum over the rows
 pub row-sum : (r i c : List ℕ) → dot r (weightsOf i c) ≡ rowSum r i c
-unfolding weightsOf
-row-sum r i c = ends-in-zeros r (productsOf i c) (rows - length i) ∙ products-sum r i c
+unfolding weightsOf filled
+row-sum r i c = ends-in-zeros r (productsOf i c) (mostRows - length (productsOf i c)) ∙ products-sum r i c
 
 pub sums-same : (t : Tables) (r : List ℕ) →
     dots (weightsOf (t .illuminant) (t .x)) (weightsOf (t .illuminant) (t .y)) (weightsOf (t .illuminant) (t .z)) r ≡ sumsOf t r

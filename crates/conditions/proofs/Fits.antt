@@ -1,5 +1,5 @@
 -- Tables that pass their first two checks: their lengths, their scales, and their weights. Assumes nothing.
-use mathlib.Core.Path.{_≡_, sym, _∙_}
+use mathlib.Core.Path.{_≡_, sym, ap, _∙_}
 use mathlib.Core.Bool.{Bool, false, _||_}
 use mathlib.Core.List.{List}
 use Prim.Native.Nat.{ℕ, _≤_}
@@ -7,23 +7,26 @@ use native.Mathlib.Omega.{arith}
 use borrow.Author.Tests.{eqb-true, not-false}
 use lib.Dec.{eqb}
 use lib.ListN.{length}
-use Rattle.cie.specs.Scales.{rows, illuminantLimit, columnLimit, anyAbove}
+use Rattle.cie.specs.Spacing.{mostRows, rowsAt}
+use Rattle.cie.specs.Scales.{illuminantLimit, columnLimit, anyAbove}
 use Rattle.cie.specs.Sums.{Tables}
 use Rattle.cie.proofs.Scales.{or-left, or-right}
-use Rattle.conditions.specs.Weights.{weightsOf, Weights}
+use Rattle.cie.proofs.TableRows.{rows-few, filled-length}
+use Rattle.conditions.specs.Weights.{productsOf, weightsOf, Weights}
 use Rattle.conditions.specs.Checks.{short, anyShort, anyOffScale}
-use Rattle.conditions.proofs.Products.{weights-length, weights-below}
+use Rattle.conditions.proofs.Products.{products-short, weights-below}
 
--- one of the tables, by its limit
-pub record Fits (limit : ℕ) (table : List ℕ) : Type 0 where
+-- one of the tables, by its rows and its limit
+pub record Fits (rows limit : ℕ) (table : List ℕ) : Type 0 where
   pub length-is : length table ≡ rows
   pub scale : anyAbove limit table ≡ false
 
+-- all four, at the spacing that they name
 pub record Fit (t : Tables) : Type 0 where
-  pub illuminant : Fits illuminantLimit (t .illuminant)
-  pub x : Fits columnLimit (t .x)
-  pub y : Fits columnLimit (t .y)
-  pub z : Fits columnLimit (t .z)
+  pub illuminant : Fits (rowsAt (t .spacing)) illuminantLimit (t .illuminant)
+  pub x : Fits (rowsAt (t .spacing)) columnLimit (t .x)
+  pub y : Fits (rowsAt (t .spacing)) columnLimit (t .y)
+  pub z : Fits (rowsAt (t .spacing)) columnLimit (t .z)
 
 none-of : (a b c d : Bool) → (a || (b || (c || d))) ≡ false → (a ≡ false) × (b ≡ false) × (c ≡ false) × (d ≡ false)
 none-of a b c d h =
@@ -31,26 +34,36 @@ none-of a b c d h =
     let l = or-right b (c || d) k in
     (or-left a (b || (c || d)) h, or-left b (c || d) k, or-left c d l, or-right c d l)
 
-pub long : (table : List ℕ) → short table ≡ false → length table ≡ rows
-long table h = eqb-true _ _ (not-false (eqb (length table) rows) h)
+pub long : (rows : ℕ) (table : List ℕ) → short rows table ≡ false → length table ≡ rows
+long rows table h = eqb-true _ _ (not-false (eqb (length table) rows) h)
 
-pub fit : (t : Tables) → anyShort t ≡ false → anyOffScale t ≡ false → Fit t
-fit t h k =
-    let i = anyAbove illuminantLimit (t .illuminant) in
-    let l = none-of (short (t .illuminant)) (short (t .x)) (short (t .y)) (short (t .z)) h in
-    let s = none-of i (anyAbove columnLimit (t .x)) (anyAbove columnLimit (t .y)) (anyAbove columnLimit (t .z)) k in
-    record {
-      illuminant = record { length-is = long (t .illuminant) (l .0); scale = s .0 };
-      x = record { length-is = long (t .x) (l .1); scale = s .1 };
-      y = record { length-is = long (t .y) (l .2); scale = s .2 };
-      z = record { length-is = long (t .z) (l .3); scale = s .3 };
-    }
+-- whether a table is short, by the rows that a program has
+pub short-as : {n rows : ℕ} (i x y z : List ℕ) {b : Bool} → n ≡ rows → b ≡ anyShort n i x y z → anyShort rows i x y z ≡ b
+short-as i x y z e h = sym (h ∙ ap (λ (k : ℕ). anyShort k i x y z) e)
+
+module _ (t : Tables) where
+  abbrev n : ℕ
+  n = rowsAt (t .spacing)
+
+  pub fit : anyShort n (t .illuminant) (t .x) (t .y) (t .z) ≡ false → anyOffScale (t .illuminant) (t .x) (t .y) (t .z) ≡ false → Fit t
+  fit h k =
+      let i = anyAbove illuminantLimit (t .illuminant) in
+      let l = none-of (short n (t .illuminant)) (short n (t .x)) (short n (t .y)) (short n (t .z)) h in
+      let s = none-of i (anyAbove columnLimit (t .x)) (anyAbove columnLimit (t .y)) (anyAbove columnLimit (t .z)) k in
+      record {
+        illuminant = record { length-is = long n (t .illuminant) (l .0); scale = s .0 };
+        x = record { length-is = long n (t .x) (l .1); scale = s .1 };
+        y = record { length-is = long n (t .y) (l .2); scale = s .2 };
+        z = record { length-is = long n (t .z) (l .3); scale = s .3 };
+      }
 
 -- an illuminant and a column can be multiplied row by row
-pub matched : {i c : List ℕ} → Fits illuminantLimit i → Fits columnLimit c → (length i ≤ rows) × (length c ≡ length i)
-matched f g = (omega (arith, f .length-is), g .length-is ∙ sym (f .length-is))
+module _ (spacing : ℕ) {i c : List ℕ} (f : Fits (rowsAt spacing) illuminantLimit i) (g : Fits (rowsAt spacing) columnLimit c) where
+  pub matched : (length i ≤ mostRows) × (length c ≡ length i)
+  matched = (omega (arith, rows-few spacing, f .length-is), g .length-is ∙ sym (f .length-is))
 
-pub weights-fit : {i c : List ℕ} → Fits illuminantLimit i → Fits columnLimit c → Weights (weightsOf i c)
-weights-fit {i} {c} f g =
-    let m = matched f g in
-    record { length-is = weights-length i c (m .1) (m .0); scale = weights-below illuminantLimit columnLimit i c (f .scale) (g .scale) }
+  pub weights-fit : Weights (weightsOf i c)
+  unfolding weightsOf
+  weights-fit =
+      let few : length (productsOf i c) ≤ mostRows = omega (arith, products-short i c, matched .0) in
+      record { length-is = filled-length (productsOf i c) few; scale = weights-below illuminantLimit columnLimit i c (f .scale) (g .scale) }

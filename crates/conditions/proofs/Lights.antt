@@ -1,34 +1,77 @@
--- The opening of a built-in light, by its number. Assumes nothing.
-use mathlib.Core.Path.{_≡_, sym, _∙_}
+-- The opening of a built-in light, by its number and the spacing. Assumes nothing.
+use mathlib.Core.Path.{_≡_, refl, sym, _∙_, ap}
+use mathlib.Core.Bool.{false, cond}
 use mathlib.Core.List.{List}
-use Prim.Native.Nat.{ℕ}
+use Prim.Native.Nat.{ℕ, _≤_}
+use native.Mathlib.Omega.{arith}
 use borrow.Author.Tests.{eq-eqb, ne-eqb}
+use lib.Dec.{eqb}
+use lib.ListN.{length, take}
+use lib.Seq.{length-take-le}
 use Rattle.causes.specs.declared.Cause.the-variants.{NoSuchLight}
-use Rattle.causes.specs.declared.Checked.the-variants.{Clear}
 use Rattle.causes.specs.Causes.{causeNumber, refused}
-use Rattle.causes.specs.Checks.{firstOf}
-use Rattle.causes.proofs.Checks.{accepts, fires}
+use Rattle.causes.proofs.Checks.{accepts, fires, passes, ends}
+use Rattle.cie.specs.Spacing.{unknownSpacing, mostRows, rowsAt, filled}
 use Rattle.cie.specs.Tables.{observerX, observerY, observerZ, illuminantA, illuminantD65}
 use Rattle.cie.specs.Sums.{tablesOf}
-use Rattle.cie.specs.Lights.{lightA, lightD65, lightTables}
-use Rattle.conditions.specs.Checks.{lightChecks}
+use Rattle.cie.specs.Lights.{lightA, lightD65, unknownLight, tableAt, observed}
+use Rattle.cie.proofs.TableRows.{rows-few, table-length, filled-length, filled-front}
 use Rattle.conditions.specs.Conditions.{preparedOf, preparedLight}
 use Rattle.conditions.proofs.Sound.{light-clear}
 
-module _ (light : ℕ) where
-  -- the light's own tables pass, so that its opening has no check but its own
-  pub opened-by : {i x y z : List ℕ} → firstOf (lightChecks light) ≡ Clear →
-      i ≡ lightTables light .illuminant → x ≡ observerX → y ≡ observerY → z ≡ observerZ → preparedLight light ≡ preparedOf (tablesOf i x y z)
-  opened-by h a b c d = accepts _ _ _ h ∙ sym (rw (a, b, c, d) (accepts _ _ _ (light-clear light)))
+-- how many rows the built-in tables have
+pub record Whole : Type 0 where
+  pub a : length illuminantA ≡ mostRows
+  pub d65 : length illuminantD65 ≡ mostRows
+  pub x : length observerX ≡ mostRows
+  pub y : length observerY ≡ mostRows
+  pub z : length observerZ ≡ mostRows
 
-  pub light-a : light ≡ lightA → (firstOf (lightChecks light) ≡ Clear) × (illuminantA ≡ lightTables light .illuminant)
-  unfolding firstOf
-  light-a e = (rw (eq-eqb light lightA e), rw (eq-eqb light lightA e))
+pub whole : Whole
+unfolding illuminantA illuminantD65 observerX observerY observerZ
+whole = record { a = refl; d65 = refl; x = refl; y = refl; z = refl }
+
+-- an array that holds a built-in table at a spacing: how long it is, and that the table is its front
+module _ (spacing : ℕ) (table : List ℕ) {array : List ℕ} (h : length table ≡ mostRows) (e : array ≡ filled (tableAt spacing table)) where
+  pub held-length : length array ≡ mostRows
+  held-length = ap length e ∙ filled-length (tableAt spacing table) (omega (arith, table-length spacing table h, rows-few spacing))
+
+  pub held-front : take (rowsAt spacing) array ≡ tableAt spacing table
+  held-front = ap (take (rowsAt spacing)) e ∙ filled-front (tableAt spacing table) (rowsAt spacing) (table-length spacing table h)
+
+-- the front of an array, as a program lends it
+pub part-length : {rows : ℕ} (array : List ℕ) → rows ≤ mostRows → length array ≡ mostRows → rows ≡ length (take rows array)
+part-length {rows} array h e = sym (length-take-le rows array (omega arith))
+
+-- the tables of an illuminant with the built-in observer, as a program lends them
+pub lent : (spacing : ℕ) (i : List ℕ) {rows : ℕ} {x y z : List ℕ} → rows ≡ rowsAt spacing →
+    x ≡ filled (tableAt spacing observerX) → y ≡ filled (tableAt spacing observerY) → z ≡ filled (tableAt spacing observerZ) →
+    observed spacing (take (rowsAt spacing) i) ≡ tablesOf spacing (take rows i) (take rows x) (take rows y) (take rows z)
+lent spacing i e p q r =
+    rw (
+      e,
+      held-front spacing observerX (whole .x) p,
+      held-front spacing observerY (whole .y) q,
+      held-front spacing observerZ (whole .z) r,
+    )
+
+module _ (light spacing : ℕ) (known : unknownSpacing spacing ≡ false) where
+  -- the light's own tables pass, so that its opening has no check but its own
+  opened-by : (table : List ℕ) {array : List ℕ} → length table ≡ mostRows → table ≡ cond (eqb light lightA) illuminantA illuminantD65 →
+      unknownLight light ≡ false → array ≡ filled (tableAt spacing table) →
+      preparedLight light spacing ≡ preparedOf (observed spacing (take (rowsAt spacing) array))
+  opened-by table whole e lit h =
+      let front = held-front spacing table whole h ∙ ap (tableAt spacing) e in
+      passes _ _ _ _ _ known ∙ passes _ _ _ _ _ lit ∙ ends _ _ ∙ sym (rw front (accepts _ _ _ (light-clear light spacing known)))
+
+  pub light-a : {array : List ℕ} → light ≡ lightA → array ≡ filled (tableAt spacing illuminantA) →
+      preparedLight light spacing ≡ preparedOf (observed spacing (take (rowsAt spacing) array))
+  light-a e h = opened-by illuminantA (whole .a) (rw (eq-eqb light lightA e)) (rw (eq-eqb light lightA e)) h
 
   module _ (n : light ≡ lightA → ⊥) where
-    pub light-d65 : light ≡ lightD65 → (firstOf (lightChecks light) ≡ Clear) × (illuminantD65 ≡ lightTables light .illuminant)
-    unfolding firstOf
-    light-d65 e = (rw (ne-eqb light lightA n, eq-eqb light lightD65 e), rw (ne-eqb light lightA n))
+    pub light-d65 : {array : List ℕ} → light ≡ lightD65 → array ≡ filled (tableAt spacing illuminantD65) →
+        preparedLight light spacing ≡ preparedOf (observed spacing (take (rowsAt spacing) array))
+    light-d65 e h = opened-by illuminantD65 (whole .d65) (rw (ne-eqb light lightA n)) (rw (ne-eqb light lightA n, eq-eqb light lightD65 e)) h
 
-    pub light-none : (light ≡ lightD65 → ⊥) → preparedLight light ≡ refused (causeNumber NoSuchLight)
-    light-none m = fires _ _ _ _ _ (rw (ne-eqb light lightA n, ne-eqb light lightD65 m))
+    pub light-none : (light ≡ lightD65 → ⊥) → preparedLight light spacing ≡ refused (causeNumber NoSuchLight)
+    light-none m = passes _ _ _ _ _ known ∙ fires _ _ _ _ _ (rw (ne-eqb light lightA n, ne-eqb light lightD65 m))

@@ -10,7 +10,8 @@ use Rattle.causes.specs.Checks.{firstOf}
 use Rattle.causes.proofs.Checks.{clear-head, clear-tail, numbered-refused, numbered-accepted}
 use Rattle.cie.specs.declared.Sums.{Sums}
 use Rattle.cie.specs.declared.Colour.{Colour}
-use Rattle.cie.specs.Scales.{rows, readingLimit}
+use Rattle.cie.specs.Spacing.{mostRows}
+use Rattle.cie.specs.Scales.{readingLimit}
 use Rattle.cie.specs.Sums.{White, AtMostTwice}
 use Rattle.cie.specs.Sizes.{Sized}
 use Rattle.cie.specs.Colour.{colourOf}
@@ -28,10 +29,11 @@ use Rattle.conditions.proofs.Dots.{twice}
 use Rattle.conditions.proofs.Fits.{long}
 
 -- readings that pass their checks
-pub spectrum-of : (limit : ℕ) (readings : List ℕ) → limit ≤ readingLimit → firstOf (spectrumChecks limit readings) ≡ Clear → Spectrum readings
-spectrum-of limit readings h e =
+pub spectrum-of : (limit rows : ℕ) (readings : List ℕ) → limit ≤ readingLimit → rows ≤ mostRows →
+    firstOf (spectrumChecks limit rows readings) ≡ Clear → Spectrum readings
+spectrum-of limit rows readings h k e =
     record {
-      few = omega (arith, long readings (clear-head _ _ _ e));
+      few = omega (arith, k, long rows readings (clear-head _ _ _ e));
       scale = above-wider limit readingLimit readings h (clear-head _ _ _ (clear-tail _ _ _ e));
     }
 
@@ -43,9 +45,9 @@ module _ {c : Conditions} (s : Sound c) {readings : List ℕ} (r : Spectrum read
   lit : AtMostTwice (c .white .sums) (dots (c .x) (c .y) (c .z) readings)
   lit =
       record {
-        x = omega (arith, twice rows readings (c .x) (omega (arith, s .weights-x .length-is)) (r .scale), s .least-x);
-        y = omega (arith, twice rows readings (c .y) (omega (arith, s .weights-y .length-is)) (r .scale), s .least-y);
-        z = omega (arith, twice rows readings (c .z) (omega (arith, s .weights-z .length-is)) (r .scale), s .least-z);
+        x = omega (arith, twice mostRows readings (c .x) (omega (arith, s .weights-x .length-is)) (r .scale), s .least-x);
+        y = omega (arith, twice mostRows readings (c .y) (omega (arith, s .weights-y .length-is)) (r .scale), s .least-y);
+        z = omega (arith, twice mostRows readings (c .z) (omega (arith, s .weights-z .length-is)) (r .scale), s .least-z);
       }
 
   pub sums-ready : {sums : Sums} → sums ≡ dots (c .x) (c .y) (c .z) readings → Ready c sums
@@ -62,25 +64,25 @@ module _ {c : Conditions} (s : Sound c) {readings : List ℕ} (r : Spectrum read
   sums-sized e k = subst Sized (sym (colour-by e k)) sized-under
 
 -- what a measuring answer says of its checks
-module _ (limit : ℕ) (x y z readings : List ℕ) {m : Measured} (e : measureAnswer m ≡ measuredBy limit x y z readings) where
+module _ (limit rows : ℕ) (x y z readings : List ℕ) {m : Measured} (e : measureAnswer m ≡ measuredBy limit rows x y z readings) where
   pub measured-refused : {c : Cause} → m ≡ Refused c →
-      (d : Cause) × (firstOf (spectrumChecks limit readings) ≡ Because d) × (causeNumber d ≡ causeNumber c)
+      (d : Cause) × (firstOf (spectrumChecks limit rows readings) ≡ Because d) × (causeNumber d ≡ causeNumber c)
   unfolding measuredBy
   measured-refused told = numbered-refused _ (dots x y z readings) _ (sym e ∙ ap measureAnswer told)
 
-  pub measured-whole : {s : Sums} → m ≡ Whole s → (firstOf (spectrumChecks limit readings) ≡ Clear) × (s ≡ dots x y z readings)
+  pub measured-whole : {s : Sums} → m ≡ Whole s → (firstOf (spectrumChecks limit rows readings) ≡ Clear) × (s ≡ dots x y z readings)
   unfolding measuredBy
   measured-whole told = numbered-accepted _ (dots x y z readings) _ (sym e ∙ ap measureAnswer told)
 
 -- measured sums under sound conditions
 module _ (c : Conditions) (s : Sound c) (limit : ℕ) (h : limit ≤ readingLimit) (readings : List ℕ) {m : Measured} {sums : Sums}
-    (e : measureAnswer m ≡ measuredBy limit (c .x) (c .y) (c .z) readings) (told : m ≡ Whole sums) where
+    (e : measureAnswer m ≡ measuredBy limit (c .rows) (c .x) (c .y) (c .z) readings) (told : m ≡ Whole sums) where
   pub measured-ready : Ready c sums
   measured-ready =
-      let w = measured-whole limit _ _ _ readings e told in
-      sums-ready s (spectrum-of limit readings h (w .0)) (w .1)
+      let w = measured-whole limit (c .rows) _ _ _ readings e told in
+      sums-ready s (spectrum-of limit (c .rows) readings h (s .few) (w .0)) (w .1)
 
   pub measured-sized : {colour : Colour} → colour ≡ colourOf (c .white .sums) sums → Sized colour
   measured-sized k =
-      let w = measured-whole limit _ _ _ readings e told in
-      sums-sized s (spectrum-of limit readings h (w .0)) (w .1) k
+      let w = measured-whole limit (c .rows) _ _ _ readings e told in
+      sums-sized s (spectrum-of limit (c .rows) readings h (s .few) (w .0)) (w .1) k

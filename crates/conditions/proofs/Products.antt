@@ -1,17 +1,16 @@
--- Laws of weights: a row of them, how many there are, how large they get, and how a program stores them. Assumes nothing.
-use mathlib.Core.Path.{_≡_, refl, sym, ap, _∙_}
+-- Laws of weights: a row of them, how many there are, and how large they get. Assumes nothing.
+use mathlib.Core.Path.{_≡_, refl, sym, ap}
 use mathlib.Core.Bool.{false}
-use mathlib.Core.List.{List, [], _∷_, _++_}
+use mathlib.Core.List.{List, [], _∷_}
 use Prim.Native.Nat.{ℕ, zero, suc, _+_, _-_, _*_, _≤_, _<_}
 use native.Mathlib.Omega.{arith}
 use native.Mathlib.Nat.{mul-le-mul, not-suc-le-zero, le-of-suc-le-suc}
 use native.Mathlib.Numerals.{add-one}
 use borrow.Author.Tests.{le-ltb}
 use lib.Dec.{ltb}
-use lib.ListN.{length, getD, drop, replicate, length-append, length-replicate, replicate-append-replicate}
-use lib.Seq.{sets, drop-at}
-use Rattle.stores.proofs.Runs.{sets-front}
-use Rattle.cie.specs.Scales.{rows, anyAbove}
+use lib.ListN.{length, getD, replicate}
+use Rattle.cie.specs.Spacing.{mostRows, filled}
+use Rattle.cie.specs.Scales.{anyAbove}
 use Rattle.cie.proofs.Scales.{or-right, below, above-append}
 use Rattle.conditions.specs.Weights.{productsOf, weightsOf}
 
@@ -49,34 +48,7 @@ zeros-below limit zero = refl
 zeros-below limit (suc n) = rw (le-ltb limit 0 (omega arith)) (zeros-below limit n)
 
 pub weights-below : (a b : ℕ) (is cs : List ℕ) → anyAbove a is ≡ false → anyAbove b cs ≡ false → anyAbove (a * b) (weightsOf is cs) ≡ false
-unfolding weightsOf
+unfolding weightsOf filled
 weights-below a b is cs h k =
-    let n : ℕ = rows - length is in
+    let n : ℕ = mostRows - length (productsOf is cs) in
     rw (above-append (a * b) (productsOf is cs) (replicate n 0), products-below a b is cs h k, zeros-below (a * b) n)
-
-abbrev zeros : ℕ → List ℕ
-zeros n = replicate n 0
-
-length-zeros : (n : ℕ) → length (zeros n) ≡ n
-length-zeros n = length-replicate {A = ℕ} n 0
-
-module _ (is cs : List ℕ) (same : length cs ≡ length is) (few : length is ≤ rows) where
-  pub weights-length : length (weightsOf is cs) ≡ rows
-  unfolding weightsOf
-  weights-length =
-      length-append (productsOf is cs) (zeros (rows - length is))
-      ∙ omega (arith, products-length is cs same, length-zeros (rows - length is))
-
-  -- the products stored at the front of zeros
-  pub weights-stored : sets (zeros rows) 0 (productsOf is cs) ≡ weightsOf is cs
-  unfolding weightsOf
-  weights-stored =
-      let n : ℕ = length is in
-      let whole : n + (rows - n) ≡ rows = omega arith in
-      let split : zeros n ++ zeros (rows - n) ≡ zeros rows = replicate-append-replicate {A = ℕ} n (rows - n) 0 ∙ ap zeros whole in
-      let rest : drop (length (productsOf is cs)) (zeros rows) ≡ zeros (rows - n) =
-      ap (λ (k : ℕ). drop k (zeros rows)) (products-length is cs same)
-      ∙ ap (drop n) (sym split)
-      ∙ drop-at (zeros n) (zeros (rows - n)) n (length-zeros n) in
-      sets-front (zeros rows) (productsOf is cs) (omega (arith, products-length is cs same, length-zeros rows))
-      ∙ ap (λ (r : List ℕ). productsOf is cs ++ r) rest

@@ -1,40 +1,42 @@
--- The checks of tables, lights and spectra, each list in the order of document 01. Assumes nothing.
+-- The checks of tables, lights and spectra, each list in the order of document 01, after document 02's 17. Assumes nothing.
 use mathlib.Core.Bool.{Bool, not, _||_}
 use mathlib.Core.List.{List, [], _∷_}
 use Prim.Native.Nat.{ℕ}
 use lib.Dec.{eqb}
 use lib.ListN.{length}
-use Rattle.causes.specs.declared.Cause.the-variants.{ShortTable, OverBright, OffScaleCondition, DarkWhite, LopsidedWhite, NoSuchLight}
+use Rattle.causes.specs.declared.Cause.the-variants.{ShortTable, OverBright, OffScaleCondition, DarkWhite, LopsidedWhite, NoSuchLight, UnknownSpacing}
 use Rattle.causes.specs.Checks.{Check, check}
-use Rattle.cie.specs.Scales.{rows, illuminantLimit, columnLimit, anyAbove}
+use Rattle.cie.specs.Spacing.{unknownSpacing, rowsAt}
+use Rattle.cie.specs.Scales.{illuminantLimit, columnLimit, anyAbove}
 use Rattle.cie.specs.Sums.{Tables, whiteOf, dark, lopsided}
-use Rattle.cie.specs.Lights.{lightA, lightD65}
+use Rattle.cie.specs.Lights.{unknownLight}
 
--- 1, short table: "a spectrum, illuminant or column isn't 81 long"
-abbrev pub short : List ℕ → Bool
-short table = not (eqb (length table) rows)
+-- 1, short table: "a spectrum, illuminant or column isn't 81 long", or 41 at 10 nm: "the length of the spacing named to the call, or of the
+-- spacing in force where a call names none"
+abbrev pub short : ℕ → List ℕ → Bool
+short rows table = not (eqb (length table) rows)
 
-abbrev pub anyShort : Tables → Bool
-anyShort t = short (t .illuminant) || (short (t .x) || (short (t .y) || short (t .z)))
+abbrev pub anyShort : (rows : ℕ) (illuminant x y z : List ℕ) → Bool
+anyShort rows illuminant x y z = short rows illuminant || (short rows x || (short rows y || short rows z))
 
 -- 3, off-scale condition: "an illuminant or observer entry above its limit"
-abbrev pub anyOffScale : Tables → Bool
-anyOffScale t =
-    anyAbove illuminantLimit (t .illuminant) || (anyAbove columnLimit (t .x) || (anyAbove columnLimit (t .y) || anyAbove columnLimit (t .z)))
+abbrev pub anyOffScale : (illuminant x y z : List ℕ) → Bool
+anyOffScale illuminant x y z = anyAbove illuminantLimit illuminant || (anyAbove columnLimit x || (anyAbove columnLimit y || anyAbove columnLimit z))
 
--- "Open (tables ..): checks 1, 3, 4, 5"
+-- "Open (tables ..): checks 1, 3, 4, 5", and 17 "checked first in every call that names one", a spacing
 abbrev pub tableChecks : Tables → List Check
 tableChecks t =
-    check (anyShort t) ShortTable
-    ∷ check (anyOffScale t) OffScaleCondition
+    check (unknownSpacing (t .spacing)) UnknownSpacing
+    ∷ check (anyShort (rowsAt (t .spacing)) (t .illuminant) (t .x) (t .y) (t .z)) ShortTable
+    ∷ check (anyOffScale (t .illuminant) (t .x) (t .y) (t .z)) OffScaleCondition
     ∷ check (dark (whiteOf t)) DarkWhite
     ∷ check (lopsided (whiteOf t)) LopsidedWhite
     ∷ []
 
--- "for a built-in light 16 only", no such light: "light not 1 or 2"
-abbrev pub lightChecks : ℕ → List Check
-lightChecks light = check (not (eqb light lightA || eqb light lightD65)) NoSuchLight ∷ []
+-- "for a built-in light 16 only"; 17 is first here too
+abbrev pub lightChecks : ℕ → ℕ → List Check
+lightChecks light spacing = check (unknownSpacing spacing) UnknownSpacing ∷ check (unknownLight light) NoSuchLight ∷ []
 
--- 1, short table; 2, over-bright: "a reading above 20,000", which is the limit that a call names
-abbrev pub spectrumChecks : ℕ → List ℕ → List Check
-spectrumChecks limit readings = check (short readings) ShortTable ∷ check (anyAbove limit readings) OverBright ∷ []
+-- 1, short table, by the rows of the spacing; 2, over-bright: "a reading above 20,000", which is the limit that a call names
+abbrev pub spectrumChecks : ℕ → ℕ → List ℕ → List Check
+spectrumChecks limit rows readings = check (short rows readings) ShortTable ∷ check (anyAbove limit readings) OverBright ∷ []

@@ -6,7 +6,8 @@ use Rattle.causes.specs.declared.Checked.{Checked}
 use Rattle.causes.specs.declared.Checked.the-variants.{Clear, Because}
 use Rattle.causes.specs.Causes.{Numbered, accepted, refused, refusal}
 use Rattle.causes.specs.Checks.{firstOf, numbered}
-use Rattle.cie.specs.Scales.{rows, whiteReading}
+use Rattle.cie.specs.Spacing.{mostRows, rowsAt}
+use Rattle.cie.specs.Scales.{whiteReading}
 use Rattle.cie.specs.Sums.{Tables, whiteOf, White}
 use Rattle.cie.specs.Lights.{lightTables}
 use Rattle.colour.specs.White.{whitePointOf}
@@ -19,19 +20,21 @@ use Rattle.conditions.specs.Checks.{tableChecks, lightChecks}
 abbrev pub conditionsOf : Tables → Conditions
 conditionsOf t =
     record {
+      rows = rowsAt (t .spacing);
       x = weightsOf (t .illuminant) (t .x);
       y = weightsOf (t .illuminant) (t .y);
       z = weightsOf (t .illuminant) (t .z);
       white = whitePointOf (whiteOf t);
     }
 
--- stands where nothing is opened: no weight, and some white, so that soundness needs no exception
+-- stands where nothing is opened: no row, no weight, and some white, so that soundness needs no exception
 unfoldable pub noConditions : Conditions
 noConditions =
     record {
-      x = replicate rows 0;
-      y = replicate rows 0;
-      z = replicate rows 0;
+      rows = 0;
+      x = replicate mostRows 0;
+      y = replicate mostRows 0;
+      z = replicate mostRows 0;
       white = whitePointOf (record { x = whiteReading; y = whiteReading; z = whiteReading });
     }
 
@@ -51,11 +54,12 @@ conditionsIn (refused n) = noConditions
 abbrev pub preparedOf : Tables → Numbered Conditions
 preparedOf t = numbered (firstOf (tableChecks t)) (conditionsOf t)
 
-abbrev pub preparedLight : ℕ → Numbered Conditions
-preparedLight light = numbered (firstOf (lightChecks light)) (conditionsOf (lightTables light))
+abbrev pub preparedLight : ℕ → ℕ → Numbered Conditions
+preparedLight light spacing = numbered (firstOf (lightChecks light spacing)) (conditionsOf (lightTables light spacing))
 
 -- what holds of prepared conditions
 pub record Sound (c : Conditions) : Type 0 where
+  pub few : c .rows ≤ mostRows
   pub weights-x : Weights (c .x)
   pub weights-y : Weights (c .y)
   pub weights-z : Weights (c .z)

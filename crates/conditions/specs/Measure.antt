@@ -19,9 +19,9 @@ abbrev pub measureAnswer : Measured → Numbered Sums
 measureAnswer (Whole sums) = accepted sums
 measureAnswer (Refused cause) = refusal cause
 
--- the sums by weights x, y, z, or the cause against readings under a limit
-unfoldable pub measuredBy : ℕ → List ℕ → List ℕ → List ℕ → List ℕ → Numbered Sums
-measuredBy limit x y z readings = numbered (firstOf (spectrumChecks limit readings)) (dots x y z readings)
+-- the sums by weights x, y, z, or the cause against readings under a limit that should have so many rows
+unfoldable pub measuredBy : ℕ → ℕ → List ℕ → List ℕ → List ℕ → List ℕ → Numbered Sums
+measuredBy limit rows x y z readings = numbered (firstOf (spectrumChecks limit rows readings)) (dots x y z readings)
 
 -- the cause in a measuring answer that has one
 abbrev pub causeIn : Measured → Cause

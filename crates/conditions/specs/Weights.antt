@@ -1,11 +1,12 @@
 -- Weights: illuminant × column, row by row, prepared once so that a sum is one product a row. Assumes nothing.
 use mathlib.Core.Path.{_≡_}
 use mathlib.Core.Bool.{false}
-use mathlib.Core.List.{List, [], _∷_, _++_}
-use Prim.Native.Nat.{ℕ, _+_, _-_, _*_, _≤_}
+use mathlib.Core.List.{List, [], _∷_}
+use Prim.Native.Nat.{ℕ, _+_, _*_, _≤_}
 use lib.ListN.{length, replicate}
 use Rattle.cie.specs.declared.Sums.{Sums}
-use Rattle.cie.specs.Scales.{rows, readingLimit, whiteReading, illuminantLimit, columnLimit, anyAbove}
+use Rattle.cie.specs.Spacing.{mostRows, filled}
+use Rattle.cie.specs.Scales.{readingLimit, whiteReading, illuminantLimit, columnLimit, anyAbove}
 
 -- the products, row by row
 unfoldable pub productsOf : List ℕ → List ℕ → List ℕ
@@ -15,7 +16,7 @@ productsOf (i ∷ is) (c ∷ cs) = (i * c) ∷ productsOf is cs
 
 -- the products, and zeros past the last of them
 unfoldable pub weightsOf : List ℕ → List ℕ → List ℕ
-weightsOf is cs = productsOf is cs ++ replicate (rows - length is) 0
+weightsOf is cs = filled (productsOf is cs)
 
 -- the sum of reading × weight over the readings' own rows
 unfoldable pub dot : List ℕ → List ℕ → ℕ
@@ -28,14 +29,14 @@ dots x y z readings = record { x = dot readings x; y = dot readings y; z = dot r
 
 -- "every reading 10,000"
 abbrev pub whiteReadings : List ℕ
-whiteReadings = replicate rows whiteReading
+whiteReadings = replicate mostRows whiteReading
 
--- readings that can be summed: no more than there are rows, and none above the widest limit
+-- readings that can be summed: "any number of rows up to 81", and none above the widest limit
 pub record Spectrum (readings : List ℕ) : Type 0 where
-  pub few : length readings ≤ rows
+  pub few : length readings ≤ mostRows
   pub scale : anyAbove readingLimit readings ≡ false
 
--- a column of weights: one for each row, none above the product of the two limits; past the last row of its tables they are zeros
+-- a column of weights: as many as there are rows at most, none above the product of the two limits; past the last row of its tables they are zeros
 pub record Weights (ws : List ℕ) : Type 0 where
-  pub length-is : length ws ≡ rows
+  pub length-is : length ws ≡ mostRows
   pub scale : anyAbove (illuminantLimit * columnLimit) ws ≡ false

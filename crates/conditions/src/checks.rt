@@ -3,9 +3,8 @@ ghost use mathlib.Core.Path.{_≡_};
 ghost use Prim.Native.Nat.{_*_};
 ghost use lib.Dec.{ltb};
 ghost use Rattle.cie.specs.Scales.{anyAbove};
-ghost use Rattle.cie.specs.Sums.{tablesOf, dark, lopsidedness, lopsided};
+ghost use Rattle.cie.specs.Sums.{dark, lopsidedness, lopsided};
 ghost use Rattle.conditions.specs.Checks.{anyShort, anyOffScale};
-use crate::weights::ROWS;
 use cie::Sums;
 
 const ILLUMINANT_LIMIT: u32 = 3000000;
@@ -14,20 +13,20 @@ const COLUMN_LIMIT: u32 = 2000000;
 
 const LOPSIDEDNESS: u64 = 10;
 
-// Whether a table does not have the rows of a spectrum.
-pub fn any_short(illuminant: &[u32], x: &[u32], y: &[u32], z: &[u32]) -> bool
-    ensures { λ r. ⌜ r ≡ anyShort (tablesOf (now (illuminant .entry)) (now (x .entry)) (now (y .entry)) (now (z .entry))) ⌝ }
+// Whether a table does not have so many rows.
+pub fn any_short(rows: usize, illuminant: &[u32], x: &[u32], y: &[u32], z: &[u32]) -> bool
+    ensures { λ r. ⌜ r ≡ anyShort rows (now (illuminant .entry)) (now (x .entry)) (now (y .entry)) (now (z .entry)) ⌝ }
 {
-    if illuminant.len() != ROWS {
+    if illuminant.len() != rows {
         return true;
     }
-    if x.len() != ROWS {
+    if x.len() != rows {
         return true;
     }
-    if y.len() != ROWS {
+    if y.len() != rows {
         return true;
     }
-    z.len() != ROWS
+    z.len() != rows
 }
 
 // Whether an entry of the table is above the limit.
@@ -46,7 +45,7 @@ fn any_above(table: &[u32], limit: u32) -> bool
 
 // Whether an entry of a table is above its limit.
 pub fn any_off_scale(illuminant: &[u32], x: &[u32], y: &[u32], z: &[u32]) -> bool
-    ensures { λ r. ⌜ r ≡ anyOffScale (tablesOf (now (illuminant .entry)) (now (x .entry)) (now (y .entry)) (now (z .entry))) ⌝ }
+    ensures { λ r. ⌜ r ≡ anyOffScale (now (illuminant .entry)) (now (x .entry)) (now (y .entry)) (now (z .entry)) ⌝ }
 {
     if any_above(illuminant, ILLUMINANT_LIMIT) {
         return true;

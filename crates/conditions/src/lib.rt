@@ -1,11 +1,16 @@
 // From tables and readings to sums: conditions are tables that pass their checks, prepared once; a spectrum is measured under them.
 ghost use mathlib.Core.Path.{_≡_};
+ghost use lib.ListN.{length, take};
 ghost use Rattle.causes.specs.Causes.{refusal};
+ghost use Rattle.cie.specs.Spacing.{mostRows, rowsAt};
 ghost use Rattle.cie.specs.Sums.{tablesOf};
+ghost use Rattle.cie.specs.Lights.{observed};
 ghost use Rattle.conditions.specs.Conditions.{noConditions, preparedOf, preparedLight, Sound, Prepares};
 use causes::Cause;
 use causes::Checked;
 use cie::Sums;
+use cie::spacing;
+use cie::tables;
 use colour::white;
 use colour::white::WhitePoint;
 
@@ -13,8 +18,9 @@ mod checks;
 pub mod measure;
 mod weights;
 
-// Illuminant × each observer column, and the white.
+// The rows of a spectrum at the spacing in force, illuminant × each observer column with zeros past the last row, and the white.
 pub struct Conditions {
+    pub rows: usize,
     pub x: [u64; 81],
     pub y: [u64; 81],
     pub z: [u64; 81],
@@ -39,6 +45,7 @@ pub fn none() -> Conditions
         z: unit,
     });
     Conditions {
+        rows: 0,
         x: zeros,
         y: zeros,
         z: zeros,
@@ -56,11 +63,15 @@ fn refused(cause: Cause) -> Prepared
     }
 }
 
-// Conditions from an illuminant and the three columns of an observer.
-pub fn prepare(illuminant: &[u32], x: &[u32], y: &[u32], z: &[u32]) -> Prepared
-    ensures { λ r. ⌜ Prepares (preparedOf (tablesOf (now (illuminant .entry)) (now (x .entry)) (now (y .entry)) (now (z .entry)))) r ⌝ }
+// Conditions from an illuminant and the three columns of an observer, with the spacing of their rows.
+pub fn prepare(spacing: u32, illuminant: &[u32], x: &[u32], y: &[u32], z: &[u32]) -> Prepared
+    ensures { λ r. ⌜ Prepares (preparedOf (tablesOf spacing (now (illuminant .entry)) (now (x .entry)) (now (y .entry)) (now (z .entry)))) r ⌝ }
 {
-    if checks::any_short(illuminant, x, y, z) {
+    if spacing::is_unknown(spacing) {
+        return refused(Cause::UnknownSpacing);
+    }
+    let rows = spacing::rows_at(spacing);
+    if checks::any_short(rows, illuminant, x, y, z) {
         return refused(Cause::ShortTable);
     }
     if checks::any_off_scale(illuminant, x, y, z) {
@@ -80,6 +91,7 @@ pub fn prepare(illuminant: &[u32], x: &[u32], y: &[u32], z: &[u32]) -> Prepared
     Prepared {
         checked: Checked::Clear,
         conditions: Conditions {
+            rows: rows,
             x: wx,
             y: wy,
             z: wz,
@@ -88,18 +100,36 @@ pub fn prepare(illuminant: &[u32], x: &[u32], y: &[u32], z: &[u32]) -> Prepared
     }
 }
 
-// Conditions of a built-in light: 1 is A, 2 is D65, each with the 1931 observer.
-pub fn prepare_light(light: u32) -> Prepared
-    ensures { λ r. ⌜ Prepares (preparedLight light) r ⌝ }
+// Conditions of a built-in illuminant, held in an array, with the 1931 observer.
+fn prepare_observed(spacing: u32, illuminant: [u32; 81]) -> Prepared
+    requires { ⌜ length illuminant ≡ mostRows ⌝ }
+    ensures { λ r. ⌜ Prepares (preparedOf (observed spacing (take (rowsAt spacing) illuminant))) r ⌝ }
 {
-    let x = cie::tables::observer_x();
-    let y = cie::tables::observer_y();
-    let z = cie::tables::observer_z();
+    let rows = spacing::rows_at(spacing);
+    let x = tables::observer_x(spacing);
+    let y = tables::observer_y(spacing);
+    let z = tables::observer_z(spacing);
+    prepare(
+        spacing,
+        &illuminant[..rows],
+        &x[..rows],
+        &y[..rows],
+        &z[..rows],
+    )
+}
+
+// Conditions of a built-in light at a spacing: 1 is A, 2 is D65, each with the 1931 observer.
+pub fn prepare_light(light: u32, spacing: u32) -> Prepared
+    ensures { λ r. ⌜ Prepares (preparedLight light spacing) r ⌝ }
+{
+    if spacing::is_unknown(spacing) {
+        return refused(Cause::UnknownSpacing);
+    }
     if light == 1 {
-        return prepare(&cie::tables::illuminant_a(), &x, &y, &z);
+        return prepare_observed(spacing, tables::illuminant_a(spacing));
     }
     if light == 2 {
-        return prepare(&cie::tables::illuminant_d65(), &x, &y, &z);
+        return prepare_observed(spacing, tables::illuminant_d65(spacing));
     }
     refused(Cause::NoSuchLight)
 }

@@ -1,13 +1,13 @@
 // Measuring a spectrum under conditions.
 ghost use mathlib.Core.Path.{_≡_};
 ghost use Prim.Native.Nat.{_≤_};
+ghost use Rattle.cie.specs.Spacing.{mostRows};
 ghost use Rattle.cie.specs.Scales.{readingLimit};
 ghost use Rattle.conditions.specs.Weights.{Spectrum, Weights};
 ghost use Rattle.conditions.specs.Conditions.{Sound};
 ghost use Rattle.conditions.specs.Measure.{measureAnswer, measuredBy, causeIn, colourUnder};
 use crate::Conditions;
 use crate::weights;
-use crate::weights::ROWS;
 use causes::Cause;
 use cie::Colour;
 use cie::Sums;
@@ -18,18 +18,19 @@ pub enum Measured {
     Refused(Cause),
 }
 
-// Measures a spectrum by the weights of conditions; a reading above the limit is over-bright.
+// Measures a spectrum, of so many rows, by the weights of conditions; a reading above the limit is over-bright.
 pub fn measure<'a>(
     readings: &[u16],
     limit: u16,
+    rows: usize,
     x: &'a [u64],
     y: &'a [u64],
     z: &'a [u64],
 ) -> Measured
-    requires { ⌜ (limit ≤ readingLimit) × Weights (now x) × Weights (now y) × Weights (now z) ⌝ }
-    ensures { λ r. ⌜ measureAnswer r ≡ measuredBy limit (now (x .entry)) (now (y .entry)) (now (z .entry)) (now (readings .entry)) ⌝ }
+    requires { ⌜ (limit ≤ readingLimit) × (rows ≤ mostRows) × Weights (now x) × Weights (now y) × Weights (now z) ⌝ }
+    ensures { λ r. ⌜ measureAnswer r ≡ measuredBy limit rows (now (x .entry)) (now (y .entry)) (now (z .entry)) (now (readings .entry)) ⌝ }
 {
-    if readings.len() != ROWS {
+    if readings.len() != rows {
         return Measured::Refused(Cause::ShortTable);
     }
     if cie::spectrum::over_bright(readings, limit) {

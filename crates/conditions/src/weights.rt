@@ -2,18 +2,15 @@
 ghost use mathlib.Core.Path.{_≡_};
 ghost use Prim.Native.Nat.{_≤_};
 ghost use lib.ListN.{length};
-ghost use Rattle.cie.specs.Scales.{rows};
+ghost use Rattle.cie.specs.Spacing.{mostRows};
 ghost use Rattle.conditions.specs.Weights.{weightsOf, dots, whiteReadings, Spectrum, Weights};
 use cie::Sums;
-
-// The rows of a table or a spectrum.
-pub const ROWS: usize = 81;
 
 pub const WHITE_READING: u16 = 10000;
 
 // Illuminant × column, row by row, and zeros past the last row.
 pub fn weights_of(illuminant: &[u32], column: &[u32]) -> [u64; 81]
-    requires { ⌜ (length (now illuminant) ≤ rows) × (length (now column) ≡ length (now illuminant)) ⌝ }
+    requires { ⌜ (length (now illuminant) ≤ mostRows) × (length (now column) ≡ length (now illuminant)) ⌝ }
     ensures { λ r. ⌜ r ≡ weightsOf (now (illuminant .entry)) (now (column .entry)) ⌝ }
 {
     let mut weights = [0u64; 81];

@@ -18,13 +18,14 @@ use Rattle.causes.proofs.Checks.{fires, passes, ends, refuses, clear-head, clea
 use Rattle.cie.specs.declared.Colour.{Colour}
 use Rattle.cie.specs.Lights.{lightTables}
 use Rattle.cie.specs.Sizes.{Sized}
+use Rattle.cie.proofs.TableRows.{told-known}
 use Rattle.cie.proofs.Sizes.{colour-sized}
 use Rattle.conditions.proofs.Dots.{at-most-twice}
 use Rattle.conditions.proofs.Sound.{sound-light}
 use Rattle.endian.specs.Bytes.{littleEndian, le32, twos}
 use Rattle.endian.proofs.Parts.{length-littleEndian}
 use Rattle.stores.proofs.Runs.{sets-then, sets-front}
-use Rattle.host.specs.Host.{hostReadings, answerLength, answerBytes, colourChecks, hostChecks, lightColour, colouredOf, answered, bufferAfter}
+use Rattle.host.specs.Host.{hostSpacing, hostReadings, answerLength, answerBytes, colourChecks, hostChecks, hostColour, colouredOf, answered, bufferAfter}
 
 -- stores
 pub pair-put : (d : List ℕ) (at : ℕ) (p q : ℤ) {e g : List ℕ} → e ≡ sets d at (le32 (twos p)) → g ≡ sets e (at + 4) (le32 (twos q))
@@ -52,19 +53,21 @@ module _ (light : ℕ) (bytes : List ℕ) where
   found-because : (n : ℕ) → refused n ≡ colouredOf light bytes →
       (c : Cause) × (firstOf (colourChecks light bytes) ≡ Because c) × (causeNumber c ≡ n)
   unfolding colouredOf
-  found-because n e = numbered-refused (firstOf (colourChecks light bytes)) (lightColour light (hostReadings bytes)) n (sym e)
+  found-because n e = numbered-refused (firstOf (colourChecks light bytes)) (hostColour light bytes) n (sym e)
 
   found-colour : (c : Colour) → accepted c ≡ colouredOf light bytes →
-      (firstOf (colourChecks light bytes) ≡ Clear) × (c ≡ lightColour light (hostReadings bytes))
+      (firstOf (colourChecks light bytes) ≡ Clear) × (c ≡ hostColour light bytes)
   unfolding colouredOf
-  found-colour c e = numbered-accepted (firstOf (colourChecks light bytes)) (lightColour light (hostReadings bytes)) c (sym e)
+  found-colour c e = numbered-accepted (firstOf (colourChecks light bytes)) (hostColour light bytes) c (sym e)
 
   pub found-sized : (c : Colour) → accepted c ≡ colouredOf light bytes → Sized c
-  unfolding lightColour
+  unfolding hostColour
   found-sized c e =
       let f = found-colour c e in
       let fair = clear-head _ _ _ (clear-tail _ _ _ (clear-tail _ _ _ (f .0))) in
-      subst Sized (sym (f .1)) (colour-sized (sound-light light .white) (at-most-twice (lightTables light) (hostReadings bytes) fair))
+      let s = hostSpacing bytes in
+      let white = sound-light light s (told-known (length bytes)) .white in
+      subst Sized (sym (f .1)) (colour-sized white (at-most-twice (lightTables light s) (hostReadings bytes) fair))
 
   -- the returns
   module _ (b : List ℕ) where
@@ -87,7 +90,7 @@ module _ (light : ℕ) (bytes : List ℕ) where
           (_≡_ {A = ℕ} 0 (answered light bytes (length b))) × (g ≡ bufferAfter light bytes b)
       unfolding answered bufferAfter
       written h {g} p =
-          let whole : g ≡ answerBytes (lightColour light (hostReadings bytes)) ++ drop answerLength b =
+          let whole : g ≡ answerBytes (hostColour light bytes) ++ drop answerLength b =
           p ∙ sets-front b (answerBytes c) (omega (arith, length-answer c)) ∙ ap (λ (k : ℕ). answerBytes c ++ drop k b) (length-answer c)
           ∙ ap (λ (k : Colour). answerBytes k ++ drop answerLength b) (found-colour c e .1) in
           rw rest (sym (passes _ _ _ _ _ (le-ltb _ _ h) ∙ ends _ _), whole ∙ sym (passes _ _ _ _ _ (le-ltb _ _ h) ∙ ends _ _))

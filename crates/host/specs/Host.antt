@@ -1,6 +1,6 @@
 -- Document 01, "Listing and host": what the C call answers and leaves in its buffer, refusals included. Assumes nothing.
-use Prim.Native.Nat.{ℕ, _*_}
-use mathlib.Core.Bool.{not, _||_}
+use Prim.Native.Nat.{ℕ}
+use mathlib.Core.Bool.{not}
 use mathlib.Core.List.{List, [], _∷_, _++_}
 use lib.ListN.{length, drop}
 use lib.IntN.{pos}
@@ -9,19 +9,24 @@ use Rattle.causes.specs.declared.Cause.the-variants.{ShortTable, OverBright, Sh
 use Rattle.causes.specs.Causes.{causeNumber, Numbered, accepted, refusal}
 use Rattle.causes.specs.Checks.{Check, check, firstOf, unless, numbered}
 use Rattle.cie.specs.declared.Colour.{Colour}
-use Rattle.cie.specs.Scales.{rows, readingLimit, anyAbove}
-use Rattle.cie.specs.Lights.{lightA, lightD65, lightTables}
+use Rattle.cie.specs.Spacing.{rowsAt, spectrumBytes, spacingTold}
+use Rattle.cie.specs.Scales.{readingLimit, anyAbove}
+use Rattle.cie.specs.Lights.{unknownLight, lightTables}
 use Rattle.cie.specs.Colour.{colourAt}
 use Rattle.endian.specs.Bytes.{le32, words, twos}
 use Rattle.host.specs.declared.Coloured.{Coloured}
 use Rattle.host.specs.declared.Coloured.the-variants.{Whole, Refused}
 
--- "a spectrum as 162 bytes (81 readings of 2 bytes, little-endian)"
-abbrev pub spectrumLength : ℕ
-spectrumLength = 2 * rows
+-- "a spectrum as 162 bytes (81 readings of 2 bytes, little-endian)"; document 02: "the host call takes 162 or 82 bytes, the length telling the
+-- spacing"
+abbrev pub hostSpacing : List ℕ → ℕ
+hostSpacing bytes = spacingTold (length bytes)
+
+abbrev pub hostRows : List ℕ → ℕ
+hostRows bytes = rowsAt (hostSpacing bytes)
 
 abbrev pub hostReadings : List ℕ → List ℕ
-hostReadings bytes = words bytes 0 2 rows
+hostReadings bytes = words bytes 0 2 (hostRows bytes)
 
 -- "L, a, b, u, v as five signed 4-byte numbers, little-endian": 20 bytes
 abbrev pub answerLength : ℕ
@@ -33,17 +38,17 @@ answerBytes c = le32 (twos (pos (c .l))) ++ le32 (twos (c .a)) ++ le32 (twos (c 
 -- "or a cause (16, 1, 2, 15)": those of the light and the spectrum, and then that of the buffer
 abbrev pub colourChecks : ℕ → List ℕ → List Check
 colourChecks light bytes =
-    check (not (eqb light lightA || eqb light lightD65)) NoSuchLight
-    ∷ check (not (eqb (length bytes) spectrumLength)) ShortTable
+    check (unknownLight light) NoSuchLight
+    ∷ check (not (eqb (length bytes) (spectrumBytes (hostRows bytes)))) ShortTable
     ∷ check (anyAbove readingLimit (hostReadings bytes)) OverBright
     ∷ []
 
 abbrev pub hostChecks : ℕ → List ℕ → ℕ → List Check
 hostChecks light bytes room = colourChecks light bytes ++ (check (ltb room answerLength) ShortBuffer ∷ [])
 
--- the colour of a spectrum under a light
-unfoldable pub lightColour : ℕ → List ℕ → Colour
-lightColour light readings = colourAt (lightTables light) readings
+-- the colour of a spectrum under a light, at the spacing that its length tells
+unfoldable pub hostColour : ℕ → List ℕ → Colour
+hostColour light bytes = colourAt (lightTables light (hostSpacing bytes)) (hostReadings bytes)
 
 -- what is found before the buffer is looked at, in the paper's numbers: the colour, or the number of the cause
 abbrev pub colouredAnswer : Coloured → Numbered Colour
@@ -51,7 +56,7 @@ colouredAnswer (Whole colour) = accepted colour
 colouredAnswer (Refused cause) = refusal cause
 
 unfoldable pub colouredOf : ℕ → List ℕ → Numbered Colour
-colouredOf light bytes = numbered (firstOf (colourChecks light bytes)) (lightColour light (hostReadings bytes))
+colouredOf light bytes = numbered (firstOf (colourChecks light bytes)) (hostColour light bytes)
 
 -- "gets 0 and L, a, b, u, v .., or a cause"
 unfoldable pub answered : ℕ → List ℕ → ℕ → ℕ
@@ -61,4 +66,4 @@ answered light bytes room = unless (firstOf (hostChecks light bytes room)) cause
 unfoldable pub bufferAfter : ℕ → List ℕ → List ℕ → List ℕ
 bufferAfter light bytes buffer =
     unless (firstOf (hostChecks light bytes (length buffer))) (λ _. buffer)
-    (answerBytes (lightColour light (hostReadings bytes)) ++ drop answerLength buffer)
+    (answerBytes (hostColour light bytes) ++ drop answerLength buffer)

@@ -2,6 +2,7 @@
 use causes::Cause;
 use causes::Checked;
 use cie::Colour;
+use cie::spacing;
 use cie::spectrum::READING_LIMIT;
 use conditions::measure::Measured;
 use conditions::measure::measure;
@@ -10,13 +11,15 @@ ghost use mathlib.Core.List.{_++_};
 ghost use Prim.Native.Nat.{_+_, _≤_};
 ghost use lib.ListN.{length};
 ghost use lib.Seq.{sets};
+ghost use Rattle.cie.specs.Spacing.{mostRows, spectrumBytes};
+ghost use Rattle.cie.specs.Scales.{readingLimit};
 ghost use Rattle.cie.specs.Sizes.{Sized};
-ghost use Rattle.endian.specs.Bytes.{le32, twos};
+ghost use Rattle.conditions.specs.Weights.{Weights};
+ghost use Rattle.conditions.specs.Measure.{measureAnswer, measuredBy};
+ghost use Rattle.endian.specs.Bytes.{le32, words, twos};
 ghost use Rattle.host.specs.Host.{answerLength, answerBytes, colouredAnswer, colouredOf, answered, bufferAfter};
 
-// The bytes of a spectrum, and of an answer.
-const SPECTRUM: usize = 162;
-
+// The bytes of an answer.
 const ANSWER: usize = 20;
 
 // The colour of a spectrum, or the cause against it or its light.
@@ -25,24 +28,41 @@ enum Coloured {
     Refused(Cause),
 }
 
-// The colour under a light of a spectrum held in bytes.
+// Measures a spectrum held in bytes, with as many places lent for its readings as it has rows.
+fn measure_bytes<'a>(
+    spectrum: &[u8],
+    places: &mut [u16],
+    x: &'a [u64],
+    y: &'a [u64],
+    z: &'a [u64],
+) -> Measured
+    requires { ⌜ (length (now places) ≤ mostRows) × (length (now spectrum) ≡ spectrumBytes (length (now places))) × Weights (now x) × Weights (now y) × Weights (now z) ⌝ }
+    ensures { λ r. ⌜ measureAnswer r ≡ measuredBy readingLimit (length (now (places .entry))) (now (x .entry)) (now (y .entry)) (now (z .entry)) (words (now (spectrum .entry)) 0 2 (length (now (places .entry)))) ⌝ }
+{
+    endian::read_words(spectrum, 0, places);
+    let rows = places.len();
+    measure(places, READING_LIMIT, rows, x, y, z)
+}
+
+// The colour under a light of a spectrum held in bytes, whose length tells the spacing.
 fn colour_in_light(light: u32, spectrum: &[u8]) -> Coloured
     ensures { λ r. ⌜ colouredAnswer r ≡ colouredOf light (now (spectrum .entry)) ⌝ }
 {
-    let opened = conditions::prepare_light(light);
+    let spacing = spacing::told_by(spectrum.len());
+    let opened = conditions::prepare_light(light, spacing);
     let checked = opened.checked;
     if let Checked::Because(cause) = checked {
         return Coloured::Refused(cause);
     }
-    if spectrum.len() != SPECTRUM {
+    let rows = spacing::rows_at(spacing);
+    if spectrum.len() != spacing::READING_BYTES * rows {
         return Coloured::Refused(Cause::ShortTable);
     }
-    let mut readings = [0u16; 81];
-    endian::read_words(spectrum, 0, &mut readings);
+    let mut readings = [0u16; spacing::MOST_ROWS];
     let conditions = opened.conditions;
-    let measured = measure(
-        &readings,
-        READING_LIMIT,
+    let measured = measure_bytes(
+        spectrum,
+        &mut readings[..rows],
         &conditions.x,
         &conditions.y,
         &conditions.z,

@@ -6,15 +6,21 @@ use lib.ListN.{getD, take, drop}
 use Rattle.causes.specs.declared.Cause.the-variants.{NotABook}
 use Rattle.causes.specs.Causes.{causeNumber}
 use Rattle.cie.specs.declared.Colour.{Colour}
-use Rattle.cie.specs.Scales.{rows}
+use Rattle.cie.specs.Spacing.{rowsAt, spacingTold}
 use Rattle.cie.specs.Lights.{lightD65, lightTables}
 use Rattle.cie.specs.Colour.{colourAt}
-use Rattle.book.specs.Book.{isBook, numbersOf, readingsOf, spectrumOf}
+use Rattle.conditions.specs.declared.Conditions.{Conditions}
+use Rattle.conditions.specs.Measure.{colourUnder}
+use Rattle.book.specs.Book.{isBook, numbersOf, firstBodyLength, readingsOf, spectrumOf}
 use Rattle.text.specs.Text.{decimal, signed}
 
--- "opens light 2": the colour of a spectrum under it
-unfoldable pub shadeColour : List ℕ → Colour
-shadeColour readings = colourAt (lightTables lightD65) readings
+-- Document 02: "The listing goes by the first body length.": the spacing that it tells. A book of no shades has none, and is one at each spacing.
+abbrev pub listedSpacing : List ℕ → ℕ
+listedSpacing s = spacingTold (firstBodyLength s)
+
+-- "opens light 2", at a spacing: the colour of a spectrum under it
+unfoldable pub shadeColour : ℕ → List ℕ → Colour
+shadeColour spacing readings = colourAt (lightTables lightD65 spacing) readings
 
 -- a space before a text, and the line feed
 abbrev pub spaced : List ℕ → List ℕ
@@ -28,17 +34,21 @@ unfoldable pub lineOf : ℕ → Colour → List ℕ
 lineOf number c =
     decimal number ++ spaced (decimal (c .l)) ++ spaced (signed (c .a)) ++ spaced (signed (c .b)) ++ spaced (signed (c .u)) ++ spaced (signed (c .v)) ++ lineEnd
 
--- the lines of some shades: their numbers, and the readings of all, one shade after the other
-unfoldable pub linesOf : List ℕ → List ℕ → List ℕ
-linesOf [] readings = []
-linesOf (k ∷ ks) readings = lineOf k (shadeColour (take rows readings)) ++ linesOf ks (drop rows readings)
+-- the lines of some shades at a spacing: their numbers, and the readings of all, one shade after the other
+unfoldable pub linesOf : ℕ → List ℕ → List ℕ → List ℕ
+linesOf spacing [] readings = []
+linesOf spacing (k ∷ ks) readings =
+    lineOf k (shadeColour spacing (take (rowsAt spacing) readings)) ++ linesOf spacing ks (drop (rowsAt spacing) readings)
 
--- the line of a book's i-th shade, from 0, and the lines of all
-abbrev pub shadeLine : List ℕ → ℕ → List ℕ
-shadeLine s i = lineOf (getD (numbersOf s) i 0) (shadeColour (spectrumOf rows (readingsOf rows s) i))
+abbrev pub shadeLines : ℕ → List ℕ → List ℕ
+shadeLines spacing s = linesOf spacing (numbersOf s) (readingsOf (rowsAt spacing) s)
 
-abbrev pub shadeLines : List ℕ → List ℕ
-shadeLines s = linesOf (numbersOf s) (readingsOf rows s)
+-- the colour of a book's i-th shade, from 0, under conditions, and its line
+abbrev pub shadeUnder : Conditions → List ℕ → ℕ → Colour
+shadeUnder c s i = colourUnder c (spectrumOf (c .rows) (readingsOf (c .rows) s) i)
+
+abbrev pub shadeLine : Conditions → List ℕ → ℕ → List ℕ
+shadeLine c s i = lineOf (getD (numbersOf s) i 0) (shadeUnder c s i)
 
 -- the longest line: two numbers of at most 10 digits, four signed ones of at most 11 characters, five spaces and a line feed
 abbrev pub lineRoom : ℕ
@@ -54,4 +64,4 @@ refusal = (114 ∷ 101 ∷ 102 ∷ 117 ∷ 115 ∷ 101 ∷ 100 ∷ 32 ∷ []) ++
 
 -- "prints a header and one line per shade"; "Input that isn't a book prints only the line `refused 11`."
 unfoldable pub listingOf : List ℕ → List ℕ
-listingOf s = cond (isBook rows s) (header ++ shadeLines s) refusal
+listingOf s = cond (isBook (rowsAt (listedSpacing s)) s) (header ++ shadeLines (listedSpacing s) s) refusal

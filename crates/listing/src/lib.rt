@@ -1,19 +1,21 @@
-// The listing of a shade book, as text in a lent buffer: a header, and a line for each shade with its colour under D65.
+// The listing of a shade book, as text in a lent buffer: a header, and a line for each shade with its colour under D65 at the book's spacing.
 mod line;
 
 use causes::Cause;
+use cie::Colour;
+use cie::spacing;
 use conditions::Conditions;
+use conditions::measure;
 ghost use mathlib.Core.Path.{_≡_};
-ghost use mathlib.Core.Bool.{true};
+ghost use mathlib.Core.Bool.{true, false};
 ghost use Prim.Native.Nat.{_+_, _*_, _≤_, _<_};
 ghost use lib.ListN.{length};
-ghost use Rattle.cie.specs.Scales.{rows};
-ghost use Rattle.cie.specs.Lights.{lightD65, lightTables};
-ghost use Rattle.conditions.specs.Conditions.{conditionsOf};
+ghost use Rattle.cie.specs.Spacing.{unknownSpacing, rowsAt};
+ghost use Rattle.conditions.specs.Conditions.{Sound};
 ghost use Rattle.book.specs.Book.{mostShades, countOf, isBook};
 ghost use Rattle.io.specs.Counts.{Counts};
 ghost use Rattle.text.specs.Text.{Put};
-ghost use Rattle.listing.specs.Listing.{shadeLine, shadeLines, lineRoom, refusal, listingOf};
+ghost use Rattle.listing.specs.Listing.{shadeUnder, shadeLine, shadeLines, lineRoom, refusal, listingOf};
 
 // D65, the light of the listing.
 const LIGHT: u32 = 2;
@@ -28,24 +30,33 @@ fn put_refusal(out: &mut [u8], at: usize) -> usize
     text::put(out, number, b"\n")
 }
 
+// The colour of a book's i-th shade, from 0, with as many places lent for its readings as there are rows.
+fn shade_under(conditions: Conditions, book: &[u8], i: usize, places: &mut [u16]) -> Colour
+    requires { ⌜ Sound conditions × (isBook (conditions .rows) (now book) ≡ true) × (i < countOf (now book)) × (length (now places) ≡ conditions .rows) ⌝ }
+    ensures { λ r. ⌜ r ≡ shadeUnder conditions (now (book .entry)) i ⌝ }
+{
+    book::reader::spectrum_at(book, i, places);
+    measure::colour_under(conditions, places)
+}
+
 // The line of a book's i-th shade, from 0.
 fn put_shade(conditions: Conditions, book: &[u8], i: usize, out: &mut [u8], at: usize) -> usize
-    requires { ⌜ (conditions ≡ conditionsOf (lightTables lightD65)) × (isBook rows (now book) ≡ true) × (i < countOf (now book)) × (at + lineRoom ≤ length (now out)) ⌝ }
-    ensures { λ r. ⌜ Put (now (out .entry)) at (shadeLine (now (book .entry)) i) (now (out .exit)) r × (r ≤ at + lineRoom) ⌝ }
+    requires { ⌜ Sound conditions × (isBook (conditions .rows) (now book) ≡ true) × (i < countOf (now book)) × (at + lineRoom ≤ length (now out)) ⌝ }
+    ensures { λ r. ⌜ Put (now (out .entry)) at (shadeLine conditions (now (book .entry)) i) (now (out .exit)) r × (r ≤ at + lineRoom) ⌝ }
 {
-    let mut readings = [0u16; 81];
-    book::reader::spectrum_at(book, i, &mut readings);
+    let rows = conditions.rows;
+    let mut readings = [0u16; spacing::MOST_ROWS];
+    let colour = shade_under(conditions, book, i, &mut readings[..rows]);
     let number = book::reader::number_at(book, i);
-    let colour = conditions::measure::colour_under(conditions, &readings);
     line::put_line(out, at, number as u32, colour)
 }
 
-// The lines of a book's shades.
-fn put_lines(book: &[u8], out: &mut [u8], start: usize) -> usize
-    requires { ⌜ (isBook rows (now book) ≡ true) × (start + lineRoom * mostShades ≤ length (now out)) ⌝ }
-    ensures { λ r. ⌜ Put (now (out .entry)) start (shadeLines (now (book .entry))) (now (out .exit)) r × (r ≤ start + lineRoom * mostShades) ⌝ }
+// The lines of a book's shades at its spacing.
+fn put_lines(spacing: u32, book: &[u8], out: &mut [u8], start: usize) -> usize
+    requires { ⌜ (unknownSpacing spacing ≡ false) × (isBook (rowsAt spacing) (now book) ≡ true) × (start + lineRoom * mostShades ≤ length (now out)) ⌝ }
+    ensures { λ r. ⌜ Put (now (out .entry)) start (shadeLines spacing (now (book .entry))) (now (out .exit)) r × (r ≤ start + lineRoom * mostShades) ⌝ }
 {
-    let opened = conditions::prepare_light(LIGHT);
+    let opened = conditions::prepare_light(LIGHT, spacing);
     let conditions = opened.conditions;
     let n = book::reader::count(book);
     let mut at = start;
@@ -62,9 +73,10 @@ pub fn list(book: &[u8], text: &mut [u8; 14016]) -> usize
     ensures { λ r. ⌜ Put (now (text .entry)) 0 (listingOf (now (book .entry))) (now (text .exit)) r ⌝ }
     ensures { λ r. ⌜ Counts r (now (text .exit)) ⌝ }
 {
-    if !book::reader::is_book(book) {
+    let spacing = spacing::told_by(book::reader::first_body_length(book) as usize);
+    if !book::reader::is_book(book, spacing::rows_at(spacing)) {
         return put_refusal(text, 0);
     }
     let start = text::put(text, 0, b"shade L a b u v\n");
-    put_lines(book, text, start)
+    put_lines(spacing, book, text, start)
 }

@@ -18,16 +18,17 @@ pub enum Seen {
 // What a trial of a spectrum would answer.
 pub fn preview<'a>(
     standing: Standing,
+    rows: usize,
     white: WhitePoint,
     readings: &[u16],
     x: &'a [u64],
     y: &'a [u64],
     z: &'a [u64],
 ) -> Seen
-    requires { ⌜ ValidStanding (conditionsBy (now x) (now y) (now z) white) standing ⌝ }
-    ensures { λ r. ⌜ seenAnswer r ≡ lookedBy (conditionsBy (now (x .entry)) (now (y .entry)) (now (z .entry)) white) standing (preview (now (readings .entry))) ⌝ }
+    requires { ⌜ ValidStanding (conditionsBy rows (now x) (now y) (now z) white) standing ⌝ }
+    ensures { λ r. ⌜ seenAnswer r ≡ lookedBy (conditionsBy rows (now (x .entry)) (now (y .entry)) (now (z .entry)) white) standing (preview (now (readings .entry))) ⌝ }
 {
-    match trials::tried(standing, white, readings, x, y, z) {
+    match trials::tried(standing, rows, white, readings, x, y, z) {
         TrialResult::Answered(trial) => Seen::Previewed(trial),
         TrialResult::Refused(cause) => Seen::Refused(cause),
     }

@@ -4,6 +4,7 @@ use mathlib.Core.List.{List}
 use Prim.Native.Nat.{ℕ, zero, suc, _-_, _<_}
 use native.Mathlib.Omega.{arith}
 use Rattle.cie.specs.declared.Space.the-variants.{Cielab}
+use Rattle.cie.specs.Spacing.{fineSpacing}
 use Rattle.session.specs.declared.Session.{Session}
 use Rattle.session.specs.declared.Served.{Served}
 use Rattle.session.specs.Call.{Call, open-light, set-standard, set-tolerance, trial, report}
@@ -17,12 +18,12 @@ unfolding after
 left m = ap (λ (x : Reply). x .session) (m .reply)
 
 -- three calls, one after the other
-pub ready : (light : ℕ) (standard : List ℕ) (amount : ℕ) {s s₁ s₂ s₃ : Session} → s ≡ freshSession → s₁ ≡ after s (open-light light)
+pub ready : (light : ℕ) (standard : List ℕ) (amount : ℕ) {s s₁ s₂ s₃ : Session} → s ≡ freshSession → s₁ ≡ after s (open-light light fineSpacing)
     → s₂ ≡ after s₁ (set-standard standard) → s₃ ≡ after s₂ (set-tolerance Cielab amount) → s₃ ≡ sessionFor light standard amount
 unfolding sessionFor
 ready light standard amount e e₁ e₂ e₃ =
     e₃ ∙ ap (λ (s : Session). after s (set-tolerance Cielab amount))
-    (e₂ ∙ ap (λ (s : Session). after s (set-standard standard)) (e₁ ∙ ap (λ (s : Session). after s (open-light light)) e))
+    (e₂ ∙ ap (λ (s : Session). after s (set-standard standard)) (e₁ ∙ ap (λ (s : Session). after s (open-light light fineSpacing)) e))
 
 -- one trial, and then the others
 pub turn : (s : Session) (readings : List ℕ) (n : ℕ) {t : Session} → 0 < n → t ≡ after s (trial readings)

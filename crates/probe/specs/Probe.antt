@@ -4,6 +4,7 @@ use mathlib.Core.List.{List}
 use Rattle.causes.specs.Causes as causes
 use Rattle.causes.specs.Causes.{Numbered}
 use Rattle.cie.specs.declared.Space.the-variants.{Cielab}
+use Rattle.cie.specs.Spacing.{fineSpacing}
 use Rattle.session.specs.declared.Session.{Session}
 use Rattle.session.specs.Call.{Call, open-light, set-standard, set-tolerance, trial, report}
 use Rattle.session.specs.Outcome.{Outcome, accepted, coloured, tried, counted, seen, refused}
@@ -23,9 +24,9 @@ readCode (causes.refused cause) = cause
 unfoldable pub after : Session → Call → Session
 after s c = served s c .session
 
--- a fresh session, then the light, the standard and a tolerance in CIELAB
+-- a fresh session, then the light at 5 nm, the standard and a tolerance in CIELAB
 unfoldable pub sessionFor : ℕ → List ℕ → ℕ → Session
-sessionFor light standard amount = after (after (after freshSession (open-light light)) (set-standard standard)) (set-tolerance Cielab amount)
+sessionFor light standard amount = after (after (after freshSession (open-light light fineSpacing)) (set-standard standard)) (set-tolerance Cielab amount)
 
 -- the session after a number of trials of one spectrum
 unfoldable pub afterTrials : Session → List ℕ → ℕ → Session

@@ -1,7 +1,6 @@
 // The book's calls, the run of a list of calls and a run of trials, for tests and benchmarks in C: no part of the product.
 ghost use mathlib.Core.Path.{_≡_};
 ghost use lib.ListN.{length};
-ghost use Rattle.cie.specs.Scales.{rows};
 ghost use Rattle.book.specs.Reading.{found, placesAfterRead};
 ghost use Rattle.book_writer.specs.Writing.{written, bufferAfterWrite};
 ghost use Rattle.calls.specs.Run.{ran, answersAfter};
@@ -11,31 +10,37 @@ use book::Found;
 use book_writer::Written;
 use calls::Ran;
 use cie::Space;
+use cie::spacing::FINE_SPACING;
 use session::Answer;
 use session::Session;
 
 // A refused write or run answers the cause's number above this: no book is as long, and no list of a test.
 const REFUSED: u64 = 4294967296;
 
-// Writes a book, and answers its length, or 2^32 and the cause's number.
+// Writes a book at a spacing, and answers its length, or 2^32 and the cause's number.
 #[no_mangle]
-pub extern "C" fn probe_write(numbers: &[u16], spectra: &[u16], buffer: &mut [u8]) -> u64
-    ensures { λ r. ⌜ r ≡ countCode (written rows (now (numbers .entry)) (now (spectra .entry)) (length (now (buffer .entry)))) ⌝ }
-    ensures { λ _. ⌜ now (buffer .exit) ≡ bufferAfterWrite rows (now (numbers .entry)) (now (spectra .entry)) (now (buffer .entry)) ⌝ }
+pub extern "C" fn probe_write(
+    spacing: u32,
+    numbers: &[u16],
+    spectra: &[u16],
+    buffer: &mut [u8],
+) -> u64
+    ensures { λ r. ⌜ r ≡ countCode (written spacing (now (numbers .entry)) (now (spectra .entry)) (length (now (buffer .entry)))) ⌝ }
+    ensures { λ _. ⌜ now (buffer .exit) ≡ bufferAfterWrite spacing (now (numbers .entry)) (now (spectra .entry)) (now (buffer .entry)) ⌝ }
 {
-    match book_writer::write(numbers, spectra, buffer) {
+    match book_writer::write(spacing, numbers, spectra, buffer) {
         Written::Total(total) => total as u64,
         Written::Refused(cause) => REFUSED + causes::number(cause) as u64,
     }
 }
 
-// Reads a shade of a book, and answers 0, or the cause's number.
+// Reads a shade of a book of a spacing, and answers 0, or the cause's number.
 #[no_mangle]
-pub extern "C" fn probe_read(book: &[u8], number: u16, places: &mut [u16]) -> u32
-    ensures { λ r. ⌜ r ≡ readCode (found rows (now (book .entry)) number (length (now (places .entry)))) ⌝ }
-    ensures { λ _. ⌜ now (places .exit) ≡ placesAfterRead rows (now (book .entry)) number (now (places .entry)) ⌝ }
+pub extern "C" fn probe_read(spacing: u32, book: &[u8], number: u16, places: &mut [u16]) -> u32
+    ensures { λ r. ⌜ r ≡ readCode (found spacing (now (book .entry)) number (length (now (places .entry)))) ⌝ }
+    ensures { λ _. ⌜ now (places .exit) ≡ placesAfterRead spacing (now (book .entry)) number (now (places .entry)) ⌝ }
 {
-    match book::read(book, number, places) {
+    match book::read(spacing, book, number, places) {
         Found::Read => 0,
         Found::Refused(cause) => causes::number(cause),
     }
@@ -58,11 +63,11 @@ pub extern "C" fn probe_run(
     }
 }
 
-// A session with a light, a standard and a tolerance in CIELAB, as far as it takes them.
+// A session with a light at 5 nm, a standard and a tolerance in CIELAB, as far as it takes them.
 fn session_for(light: u32, standard: &[u16], amount: u32) -> Session
     ensures { λ r. ⌜ (r ≡ sessionFor light (now (standard .entry)) amount) × Valid r ⌝ }
 {
-    let opened = Session::fresh().open_light(light);
+    let opened = Session::fresh().open_light(light, FINE_SPACING);
     let held = opened.session.set_standard(standard);
     let ready = held.session.set_tolerance(Space::Cielab, amount);
     ready.session
@@ -97,7 +102,7 @@ fn passed_in(answer: Answer) -> u32
     }
 }
 
-// How many of some trials of one spectrum pass, against a standard under a light, at a tolerance in CIELAB.
+// How many of some trials of one spectrum pass, against a standard under a light at 5 nm, at a tolerance in CIELAB.
 #[no_mangle]
 pub extern "C" fn probe_trials(
     light: u32,

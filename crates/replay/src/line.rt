@@ -20,8 +20,11 @@ pub enum Stage {
 
 pub struct Line {
     pub stage: Stage,
-    // the record of its call: a light, an amount, or where each table starts and how many entries it has, counted up to STRETCH
-    pub record: [u32; 9],
+    // the record of its call: a light, a spacing, an amount, or where each table starts and how many entries it has, counted up to STRETCH
+    pub record: [u32; 10],
+    // the words of the record that its numbers go to: the next, and the one after the last
+    next: usize,
+    end: usize,
     // how many tables are whole, and how many are still to come, the present one among them
     whole: usize,
     tables: usize,
@@ -43,7 +46,9 @@ impl Line {
         let second = STRETCH as u32;
         Line {
             stage: stage,
-            record: [kind, 0, 0, second, 0, 2 * second, 0, 3 * second, 0],
+            record: [kind, 0, 0, second, 0, 2 * second, 0, 3 * second, 0, 0],
+            next: 1,
+            end: 2,
             whole: 0,
             tables: tables,
             left: 0,
@@ -58,12 +63,21 @@ impl Line {
         Line::started(calls::REPORT, Stage::Unreadable, 0)
     }
 
+    // The line of a call whose numbers go to these words of its record.
+    fn with_words(mut self, next: usize, end: usize) -> Line {
+        self.next = next;
+        self.end = end;
+        self
+    }
+
     // The line at another stage.
     fn at_stage(self, stage: Stage) -> Line {
         let record = self.record;
         Line {
             stage: stage,
             record: record,
+            next: self.next,
+            end: self.end,
             whole: self.whole,
             tables: self.tables,
             left: self.left,
@@ -87,10 +101,10 @@ impl Line {
             return Line::started(calls::REPORT, Stage::End, 0);
         }
         if token.is(b"light") {
-            return Line::started(calls::OPEN_LIGHT, Stage::Number, 0);
+            return Line::started(calls::OPEN_LIGHT, Stage::Number, 0).with_words(1, 3);
         }
         if token.is(b"open") {
-            return Line::started(calls::OPEN_TABLES, Stage::Length, TABLES);
+            return Line::started(calls::OPEN_TABLES, Stage::Number, TABLES).with_words(9, 10);
         }
         Line::unreadable()
     }
@@ -146,6 +160,23 @@ impl Line {
         next
     }
 
+    // One number more goes to its word of the record; after the last come the tables, if there are any.
+    fn with_value(mut self, value: u64) -> Line {
+        let next = self.next;
+        if calls::CALL_WORDS <= next {
+            return Line::unreadable();
+        }
+        self.record[next] = capped(value);
+        self.next = next + 1;
+        if next + 1 < self.end {
+            return self;
+        }
+        if self.tables == 0 {
+            return self.at_stage(Stage::End);
+        }
+        self.at_stage(Stage::Length)
+    }
+
     // The line with one number more, where one may come.
     fn with_number(mut self, token: Token, pool: &mut [u32; 328]) -> Line {
         let stage = self.stage;
@@ -154,10 +185,7 @@ impl Line {
             return Line::unreadable();
         }
         match stage {
-            Stage::Number => {
-                self.record[1] = capped(value);
-                self.at_stage(Stage::End)
-            }
+            Stage::Number => self.with_value(value),
             Stage::Length => {
                 if value == 0 {
                     return self.with_table();

@@ -34,7 +34,7 @@ standard-silent l (held t) readings = tt
 
 call-told : (before : List Event) (l : Ledger) (c : Call) → Carried before l → CallTold before l c (entered l c .outcome)
 call-told before l (open-tables t) k = either _ Silent _ _ (λ c. tt) (λ e. tt)
-call-told before l (open-light light) k = either _ Silent _ _ (λ c. tt) (λ e. tt)
+call-told before l (open-light light spacing) k = either _ Silent _ _ (λ c. tt) (λ e. tt)
 call-told before l (set-standard readings) k = either _ Silent _ _ (λ c. tt) (λ e. standard-silent l (l .conditions) readings)
 call-told before l (set-tolerance space amount) k = either _ Silent _ _ (λ c. tt) (λ e. tt)
 call-told before l (trial readings) k = trial-told l readings (triedAt l readings) (tried-told l readings (k .kept))

@@ -50,7 +50,8 @@ module _ (before : List Event) (l : Ledger) (k : l .counts ≡ verdictsIn before
 
   pub counts-next : (c : Call) → CountsAfter before c (entered l c)
   counts-next (open-tables t) = either _ (CountsAfter before (open-tables t)) _ _ (λ c. kept _ _ (λ p. refl)) (λ e. kept _ _ (λ p. refl))
-  counts-next (open-light light) = either _ (CountsAfter before (open-light light)) _ _ (λ c. kept _ _ (λ p. refl)) (λ e. kept _ _ (λ p. refl))
+  counts-next (open-light light spacing) =
+      either _ (CountsAfter before (open-light light spacing)) _ _ (λ c. kept _ _ (λ p. refl)) (λ e. kept _ _ (λ p. refl))
   counts-next (set-standard readings) =
       either _ (CountsAfter before (set-standard readings)) _ _ (λ c. kept _ _ (λ p. refl)) (λ e. at-standard (l .conditions) readings)
   counts-next (set-tolerance space amount) =

@@ -1,14 +1,16 @@
--- Every ledger that calls lead to has tables that pass an opening's checks and a standard that passes a spectrum's: each was entered behind
--- them, and the built-in lights pass them. Assumes nothing.
+-- Every ledger that calls lead to has tables that pass an opening's checks and a standard that is not over-bright: each was entered behind
+-- its checks, and the built-in lights pass them. Assumes nothing.
 use mathlib.Core.Path.{_≡_}
+use mathlib.Core.Bool.{false}
 use mathlib.Core.List.{List}
 use Prim.Native.Nat.{ℕ}
 use Rattle.causes.specs.declared.Checked.the-variants.{Clear}
 use Rattle.causes.specs.Causes.{Numbered, accepted, refused}
 use Rattle.causes.specs.Checks.{firstOf}
 use Rattle.causes.proofs.Checks.{clear-head, clear-tail, either}
+use Rattle.cie.specs.Scales.{anyAbove}
 use Rattle.cie.specs.Sums.{Tables, sumsOf, whiteOf, White, AtMostTwice}
-use Rattle.conditions.specs.Checks.{tableChecks, spectrumChecks}
+use Rattle.conditions.specs.Checks.{tableChecks}
 use Rattle.conditions.proofs.Dots.{at-most-twice}
 use Rattle.conditions.proofs.Sound.{light-clear}
 use Rattle.trials.specs.Outcome.{TrialOutcome}
@@ -22,7 +24,7 @@ Proper (held t) = firstOf (tableChecks t) ≡ Clear
 
 abbrev pub Readable : Held (List ℕ) → Type 0
 Readable none = Unit
-Readable (held readings) = firstOf (spectrumChecks frameLimit readings) ≡ Clear
+Readable (held readings) = anyAbove frameLimit readings ≡ false
 
 pub record Kept (l : Ledger) : Type 0 where
   pub tables : Proper (l .conditions)
@@ -31,8 +33,7 @@ pub record Kept (l : Ledger) : Type 0 where
 pub kept-empty : Kept emptyLedger
 kept-empty = record { tables = tt; standard = tt }
 
-with-standard : (l : Ledger) (t : Held Tables) (readings : List ℕ) → Kept l →
-    firstOf (spectrumChecks frameLimit readings) ≡ Clear → Kept (standardAt l t readings .ledger)
+with-standard : (l : Ledger) (t : Held Tables) (readings : List ℕ) → Kept l → Readable (held readings) → Kept (standardAt l t readings .ledger)
 with-standard l none readings k e = k
 with-standard l (held t) readings k e = record { tables = k .tables; standard = e }
 
@@ -46,8 +47,10 @@ KeptAfter q = Kept (q .ledger)
 -- each call keeps it
 pub kept-next : (l : Ledger) (c : Call) → Kept l → Kept (entered l c .ledger)
 kept-next l (open-tables t) k = either _ KeptAfter _ _ (λ c. k) (λ e. record { tables = e; standard = tt })
-kept-next l (open-light light) k = either _ KeptAfter _ _ (λ c. k) (λ e. record { tables = light-clear light; standard = tt })
-kept-next l (set-standard readings) k = either _ KeptAfter _ _ (λ c. k) (λ e. with-standard l (l .conditions) readings k (clear-tail _ _ _ e))
+kept-next l (open-light light spacing) k =
+    either _ KeptAfter _ _ (λ c. k) (λ e. record { tables = light-clear light spacing (clear-head _ _ _ e); standard = tt })
+kept-next l (set-standard readings) k =
+    either _ KeptAfter _ _ (λ c. k) (λ e. with-standard l (l .conditions) readings k (clear-head _ _ _ (clear-tail _ _ _ (clear-tail _ _ _ e))))
 kept-next l (set-tolerance space amount) k = either _ KeptAfter _ _ (λ c. k) (λ e. record { tables = k .tables; standard = k .standard })
 kept-next l (trial readings) k = with-counted l (triedAt l readings) k
 kept-next l report k = k
@@ -56,8 +59,8 @@ kept-next l (look i) k = record { tables = k .tables; standard = k .standard }
 -- what the checks leave: an accepted white, and sums that do not exceed twice its own
 pub white-kept : (t : Tables) → Proper (held t) → White (whiteOf t)
 white-kept t e =
-    let d = clear-tail _ _ _ (clear-tail _ _ _ e) in
+    let d = clear-tail _ _ _ (clear-tail _ _ _ (clear-tail _ _ _ e)) in
     record { lit = clear-head _ _ _ d; even = clear-head _ _ _ (clear-tail _ _ _ d) }
 
 pub twice-kept : (t : Tables) (readings : List ℕ) → Readable (held readings) → AtMostTwice (whiteOf t) (sumsOf t readings)
-twice-kept t readings e = at-most-twice t readings (clear-head _ _ _ (clear-tail _ _ _ e))
+twice-kept t readings e = at-most-twice t readings e

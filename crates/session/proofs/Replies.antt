@@ -49,16 +49,16 @@ module _ (s : Session) (found : Checked) (k : Conditions) {p : Prepared} (e : Pr
 module _ (s : Session) (readings : List ℕ) where
   -- the measuring answer under the session's conditions
   abbrev answer : Numbered Sums
-  answer = measuredBy frameLimit (s .conditions .x) (s .conditions .y) (s .conditions .z) readings
+  answer = measuredBy frameLimit (s .conditions .rows) (s .conditions .x) (s .conditions .y) (s .conditions .z) readings
 
   module _ (opened : not (s .opened) ≡ false) {m : Measured} (e : measureAnswer m ≡ answer) where
     pub standard-refused : {cause : Cause} → m ≡ Refused cause → served s (set-standard readings) ≡ refusedBy s cause
-    standard-refused told = passes _ _ _ _ _ opened ∙ refused-as s _ _ (measured-refused frameLimit _ _ _ _ e told)
+    standard-refused told = passes _ _ _ _ _ opened ∙ refused-as s _ _ (measured-refused frameLimit (s .conditions .rows) _ _ _ _ e told)
 
     pub standard-whole : {sums : Sums} {colour : Colour} → m ≡ Whole sums → colour ≡ colourOf (s .conditions .white .sums) sums →
         served s (set-standard readings) ≡ standardBy s colour
     standard-whole told k =
-        let w = measured-whole frameLimit _ _ _ _ e told in
+        let w = measured-whole frameLimit (s .conditions .rows) _ _ _ _ e told in
         passes _ _ _ _ _ opened
         ∙ accepts _ _ _ (w .0)
         ∙ ap (λ (x : Sums). standardBy s (colourOf (s .conditions .white .sums) x)) (sym (w .1))

@@ -56,7 +56,7 @@ counting l (refused cause) = refl
 -- the session after a call is that of the ledger after it, with the ledger's outcome
 pub simulated : (l : Ledger) (c : Call) → served (sessionOf l) c ≡ replyOf (entered l c)
 simulated l (open-tables t) = both _ _ _ _ _ (λ c. refl) refl
-simulated l (open-light light) = both _ _ _ _ _ (λ c. refl) refl
+simulated l (open-light light spacing) = both _ _ _ _ _ (λ c. refl) refl
 simulated l (set-standard readings) = setting readings (l .conditions) (l .standard) (l .tolerance) (l .counts)
 simulated l (set-tolerance space amount) = both _ _ _ _ _ (λ c. refl) refl
 simulated l (trial readings) = ap (countedBy (sessionOf l)) (tried-same l readings) ∙ counting l (triedAt l readings)

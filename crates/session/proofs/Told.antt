@@ -1,17 +1,12 @@
 -- What the working out of a trial tells of the exact difference: the verdict's rule is right, and all that the ledger has passed its checks.
 -- Assumes nothing.
-use mathlib.Core.Path.{_≡_}
 use mathlib.Core.List.{List}
 use Prim.Native.Nat.{ℕ}
-use Rattle.causes.specs.declared.Checked.the-variants.{Clear}
 use Rattle.causes.specs.Causes.{Numbered, accepted, refused}
-use Rattle.causes.specs.Checks.{firstOf}
-use Rattle.causes.proofs.Checks.{clear-tail, either}
+use Rattle.causes.proofs.Checks.{clear-head, clear-tail, either}
 use Rattle.cie.specs.Sums.{Tables, sumsOf, whiteOf}
 use Rattle.cie.proofs.Verdicts.{verdicts-right}
-use Rattle.conditions.specs.Checks.{spectrumChecks}
 use Rattle.trials.specs.Outcome.{Amount, TrialOutcome}
-use Rattle.trials.specs.Checks.{frameLimit}
 use Rattle.session.specs.Outcome.{VerdictCounts}
 use Rattle.session.specs.Ledger.{Held, none, held, Ledger, workedOut, triedAt}
 use Rattle.session.specs.Claim.{VerdictAt}
@@ -25,7 +20,7 @@ Owed l readings (refused cause) = Unit
 
 -- past its checks, the verdict's rule gives it
 worked-out : (t : Held Tables) (s : Held (List ℕ)) (o : Held Amount) (n : VerdictCounts) (readings : List ℕ) →
-    Proper t → Readable s → firstOf (spectrumChecks frameLimit readings) ≡ Clear → Owed (ledgerOf t s o n) readings (workedOut t s o readings)
+    Proper t → Readable s → Readable (held readings) → Owed (ledgerOf t s o n) readings (workedOut t s o readings)
 worked-out none s o n readings p r e = tt
 worked-out (held t) none o n readings p r e = tt
 worked-out (held t) (held s) none n readings p r e = tt
@@ -38,4 +33,4 @@ tried-told l readings k =
     either _ (Owed l readings) _ _ (λ c. tt)
     (λ e.
     let f = clear-tail _ _ _ (clear-tail _ _ _ (clear-tail _ _ _ (clear-tail _ _ _ e))) in
-    worked-out (l .conditions) (l .standard) (l .tolerance) (l .counts) readings (k .tables) (k .standard) f)
+    worked-out (l .conditions) (l .standard) (l .tolerance) (l .counts) readings (k .tables) (k .standard) (clear-head _ _ _ (clear-tail _ _ _ f)))

@@ -9,6 +9,7 @@ use Rattle.causes.specs.Checks.{firstOf, unless}
 use Rattle.cie.specs.declared.Colour.{Colour}
 use Rattle.cie.specs.declared.Space.{Space}
 use Rattle.cie.specs.declared.Verdict.{Verdict}
+use Rattle.cie.specs.Spacing.{rowsAt}
 use Rattle.cie.specs.Sums.{Tables, whiteOf}
 use Rattle.cie.specs.Colour.{colourOf, colourAt}
 use Rattle.cie.specs.Verdict.{margin, verdictOf, difference}
@@ -49,7 +50,7 @@ trying readings (held t) none o n = unfold firstOf unless in refl
 trying readings (held t) (held s) none n = unfold firstOf unless in refl
 trying readings (held t) (held s) (held a) n =
     let judge : Colour → Numbered TrialOutcome = λ q. judgedAs q (judgedBy (toleranceOf (a .space) (a .units)) (colourAt t s) q) in
-    let found : Bool → Checked = λ b. firstOf (trialChecks true true b (countSum n) readings) in
+    let found : Bool → Checked = λ b. firstOf (trialChecks true true b (countSum n) (rowsAt (t .spacing)) readings) in
     ap (λ (b : Bool). unless (found b) refusal (judge (colourUnder (conditionsOf t) readings))) (tolerant (a .space) (a .units))
     ∙ ap (λ (q : Numbered TrialOutcome). unless (found true) refusal q)
     (ap judge (colour-same t readings) ∙ judging (a .space) (a .units) (colourAt t s) (colourAt t readings))

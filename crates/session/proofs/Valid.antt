@@ -55,13 +55,14 @@ ValidAfter r = Valid (r .session)
 pub valid-next : (s : Session) (c : Call) → Valid s → Valid (served s c .session)
 valid-next s (open-tables t) v =
     either _ ValidAfter _ _ (λ c. v) (λ e. record { standing = record { sound = sound-tables t e; standard = tt; count = v .standing .count } })
-valid-next s (open-light light) v =
-    either _ ValidAfter _ _ (λ c. v) (λ e. record { standing = record { sound = sound-light light; standard = tt; count = v .standing .count } })
+valid-next s (open-light light spacing) v =
+    either _ ValidAfter _ _ (λ c. v)
+    (λ e. record { standing = record { sound = sound-light light spacing (clear-head _ _ _ e); standard = tt; count = v .standing .count } })
 valid-next s (set-standard readings) v =
     either _ ValidAfter _ _ (λ c. v)
     (λ e.
-    let spectrum = spectrum-of frameLimit readings (omega arith) (clear-tail _ _ _ e) in
     let h = v .standing in
+    let spectrum = spectrum-of frameLimit (s .conditions .rows) readings (omega arith) (h .sound .few) (clear-tail _ _ _ e) in
     record { standing = record { sound = h .sound; standard = sized-under (h .sound) spectrum; count = h .count } })
 valid-next s (set-tolerance space amount) v =
     let h = v .standing in

@@ -7,7 +7,7 @@ use Rattle.looks.specs.Look.{Look}
 
 pub data Call : Type 0 where
   open-tables : Tables → Call
-  open-light : ℕ → Call
+  open-light : ℕ → ℕ → Call
   set-standard : List ℕ → Call
   set-tolerance : Space → ℕ → Call
   trial : List ℕ → Call

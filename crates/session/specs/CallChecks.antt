@@ -9,6 +9,6 @@ use Rattle.causes.specs.Checks.{Check, check}
 use Rattle.conditions.specs.Checks.{spectrumChecks}
 use Rattle.trials.specs.Checks.{frameLimit}
 
--- "Standard (spectrum): 6, 1, 2."
-abbrev pub standardChecks : Bool → List ℕ → List Check
-standardChecks opened readings = check (not opened) NoConditions ∷ spectrumChecks frameLimit readings
+-- "Standard (spectrum): 6, 1, 2.", with the rows of the spacing in force
+abbrev pub standardChecks : Bool → ℕ → List ℕ → List Check
+standardChecks opened rows readings = check (not opened) NoConditions ∷ spectrumChecks frameLimit rows readings

@@ -98,7 +98,7 @@ shows p (refused cause) = false
 -- whether a call is a trial that was given such a verdict: no other call is counted, whatever it shows
 abbrev pub given : (Verdict → Bool) → Call → Outcome → Bool
 given p (open-tables t) o = false
-given p (open-light light) o = false
+given p (open-light light spacing) o = false
 given p (set-standard readings) o = false
 given p (set-tolerance space amount) o = false
 given p (trial readings) o = shows p o
@@ -131,7 +131,7 @@ NoVerdict (refused cause) = Unit
 
 abbrev pub CallTold : List Event → Ledger → Call → Outcome → Type 0
 CallTold before l (open-tables t) o = NoVerdict o
-CallTold before l (open-light light) o = NoVerdict o
+CallTold before l (open-light light spacing) o = NoVerdict o
 CallTold before l (set-standard readings) o = NoVerdict o
 CallTold before l (set-tolerance space amount) o = NoVerdict o
 CallTold before l (trial readings) o = TrialTold l readings o

@@ -13,6 +13,7 @@ use Rattle.causes.specs.Checks.{firstOf, unless}
 use Rattle.cie.specs.declared.Colour.{Colour}
 use Rattle.cie.specs.declared.Verdict.{Verdict}
 use Rattle.cie.specs.declared.Verdict.the-variants.{Pass, Fail, OnTheLine}
+use Rattle.cie.specs.Spacing.{rowsAt}
 use Rattle.cie.specs.Sums.{Tables}
 use Rattle.cie.specs.Lights.{lightTables}
 use Rattle.cie.specs.Colour.{colourAt}
@@ -71,6 +72,11 @@ standardAt l (held t) readings =
 abbrev pub toleranceAt : Ledger → Amount → Entry
 toleranceAt l a = record { ledger = record { conditions = l .conditions; standard = l .standard; tolerance = held a; counts = l .counts }; outcome = accepted }
 
+-- "the length .. of the spacing in force where a call names none": the rows of the tables that the ledger has
+abbrev pub rowsInForce : Held Tables → ℕ
+rowsInForce none = 0
+rowsInForce (held t) = rowsAt (t .spacing)
+
 -- 10, session full: "tallies sum to 100,000", of those that the ledger has
 abbrev pub countSum : VerdictCounts → ℕ
 countSum n = n .passed + n .failed + n .line
@@ -97,7 +103,9 @@ workedOut (held t) (held standard) (held tolerance) readings = causes.accepted (
 -- "At each call the call's checks run in their order": what a trial of these readings finds, or its cause
 abbrev pub triedAt : Ledger → List ℕ → Numbered TrialOutcome
 triedAt l readings =
-    unless (firstOf (trialChecks (isHeld (l .conditions)) (isHeld (l .standard)) (isHeld (l .tolerance)) (countSum (l .counts)) readings))
+    unless
+    (firstOf
+    (trialChecks (isHeld (l .conditions)) (isHeld (l .standard)) (isHeld (l .tolerance)) (countSum (l .counts)) (rowsInForce (l .conditions)) readings))
     refusal
     (workedOut (l .conditions) (l .standard) (l .tolerance) readings)
 
@@ -121,8 +129,9 @@ seenAt l answer = record { ledger = l; outcome = seen answer }
 -- "A report changes nothing and answers the counts."
 abbrev pub entered : Ledger → Call → Entry
 entered l (open-tables t) = unless (firstOf (tableChecks t)) (refusedAt l) (openedAt l t)
-entered l (open-light light) = unless (firstOf (lightChecks light)) (refusedAt l) (openedAt l (lightTables light))
-entered l (set-standard readings) = unless (firstOf (standardChecks (isHeld (l .conditions)) readings)) (refusedAt l) (standardAt l (l .conditions) readings)
+entered l (open-light light spacing) = unless (firstOf (lightChecks light spacing)) (refusedAt l) (openedAt l (lightTables light spacing))
+entered l (set-standard readings) =
+    unless (firstOf (standardChecks (isHeld (l .conditions)) (rowsInForce (l .conditions)) readings)) (refusedAt l) (standardAt l (l .conditions) readings)
 entered l (set-tolerance space amount) = unless (firstOf (toleranceChecks amount)) (refusedAt l) (toleranceAt l (record { space = space; units = amount }))
 entered l (trial readings) = countedAt l (triedAt l readings)
 entered l report = record { ledger = l; outcome = counted (record { counts = l .counts }) }

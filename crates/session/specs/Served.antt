@@ -94,8 +94,9 @@ seenBy s answer = record { session = s; outcome = seen answer }
 
 abbrev pub served : Session → Call → Reply
 served s (open-tables t) = unless (firstOf (tableChecks t)) (refusedBy s) (openedBy s (conditionsOf t))
-served s (open-light light) = unless (firstOf (lightChecks light)) (refusedBy s) (openedBy s (conditionsOf (lightTables light)))
-served s (set-standard readings) = unless (firstOf (standardChecks (s .opened) readings)) (refusedBy s) (standardBy s (colourUnder (s .conditions) readings))
+served s (open-light light spacing) = unless (firstOf (lightChecks light spacing)) (refusedBy s) (openedBy s (conditionsOf (lightTables light spacing)))
+served s (set-standard readings) =
+    unless (firstOf (standardChecks (s .opened) (s .conditions .rows) readings)) (refusedBy s) (standardBy s (colourUnder (s .conditions) readings))
 served s (set-tolerance space amount) = unless (firstOf (toleranceChecks amount)) (refusedBy s) (toleranceBy s (toleranceOf space amount))
 served s (trial readings) = countedBy s (triedBy (s .conditions) (standingOf s) readings)
 served s report = record { session = s; outcome = counted (record { counts = countsOf (s .tallies) }) }

@@ -135,12 +135,19 @@ impl Session {
         }
     }
 
-    // Opens an illuminant and the three columns of an observer.
-    pub fn open_tables(self, illuminant: &[u32], x: &[u32], y: &[u32], z: &[u32]) -> Served
+    // Opens an illuminant and the three columns of an observer, with the spacing of their rows in nm, 5 or 10.
+    pub fn open_tables(
+        self,
+        spacing: u32,
+        illuminant: &[u32],
+        x: &[u32],
+        y: &[u32],
+        z: &[u32],
+    ) -> Served
         requires { ⌜ Valid self ⌝ }
-        ensures { λ r. ⌜ Meets self (open-tables (tablesOf (now (illuminant .entry)) (now (x .entry)) (now (y .entry)) (now (z .entry)))) r ⌝ }
+        ensures { λ r. ⌜ Meets self (open-tables (tablesOf spacing (now (illuminant .entry)) (now (x .entry)) (now (y .entry)) (now (z .entry)))) r ⌝ }
     {
-        let prepared = conditions::prepare(illuminant, x, y, z);
+        let prepared = conditions::prepare(spacing, illuminant, x, y, z);
         let checked = prepared.checked;
         let conditions = prepared.conditions;
         match checked {
@@ -149,12 +156,12 @@ impl Session {
         }
     }
 
-    // Opens a built-in light: 1 is A, 2 is D65.
-    pub fn open_light(self, light: u32) -> Served
+    // Opens a built-in light at a spacing in nm, 5 or 10: 1 is A, 2 is D65.
+    pub fn open_light(self, light: u32, spacing: u32) -> Served
         requires { ⌜ Valid self ⌝ }
-        ensures { λ r. ⌜ Meets self (open-light light) r ⌝ }
+        ensures { λ r. ⌜ Meets self (open-light light spacing) r ⌝ }
     {
-        let prepared = conditions::prepare_light(light);
+        let prepared = conditions::prepare_light(light, spacing);
         let checked = prepared.checked;
         let conditions = prepared.conditions;
         match checked {
@@ -171,9 +178,11 @@ impl Session {
         if !self.opened {
             return self.refused(Cause::NoConditions);
         }
+        let rows = self.conditions.rows;
         let measured = measure::measure(
             readings,
             FRAME_LIMIT,
+            rows,
             &self.conditions.x,
             &self.conditions.y,
             &self.conditions.z,
@@ -217,9 +226,11 @@ impl Session {
         ensures { λ r. ⌜ Meets self (trial (now (readings .entry))) r ⌝ }
     {
         let standing = self.standing();
+        let rows = self.conditions.rows;
         let white = self.conditions.white;
         let found = trials::tried(
             standing,
+            rows,
             white,
             readings,
             &self.conditions.x,

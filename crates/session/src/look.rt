@@ -14,9 +14,11 @@ impl Session {
         ensures { λ r. ⌜ Meets self (look (preview (now (readings .entry)))) r ⌝ }
     {
         let standing = self.standing();
+        let rows = self.conditions.rows;
         let white = self.conditions.white;
         let seen = looks::preview(
             standing,
+            rows,
             white,
             readings,
             &self.conditions.x,

@@ -34,28 +34,32 @@ abbrev pub Stands : Standing → Type 0
 Stands s = firstOf (standingIn s) ≡ Clear
 
 module _ (c : Conditions) (s : Standing) (readings : List ℕ) where
+  -- the checks of the spectrum
+  abbrev measuring : List Check
+  measuring = spectrumChecks frameLimit (c .rows) readings
+
   -- where something does not stand
   pub tried-fallen : {cause : Cause} → firstOf (standingIn s) ≡ Because cause → triedBy c s readings ≡ refusal cause
   unfolding triedBy
-  tried-fallen h = refuses _ _ _ _ (first-because (standingIn s) (spectrumChecks frameLimit readings) _ h)
+  tried-fallen h = refuses _ _ _ _ (first-because (standingIn s) measuring _ h)
 
   -- where all stands, the spectrum's checks decide
   past : Stands s → (a : Numbered TrialOutcome) →
-      unless (firstOf (standingIn s ++ spectrumChecks frameLimit readings)) refusal a ≡ unless (firstOf (spectrumChecks frameLimit readings)) refusal a
-  past stands a = ap (λ (t : Checked). unless t refusal a) (first-clear (standingIn s) (spectrumChecks frameLimit readings) stands)
+      unless (firstOf (standingIn s ++ measuring)) refusal a ≡ unless (firstOf measuring) refusal a
+  past stands a = ap (λ (t : Checked). unless t refusal a) (first-clear (standingIn s) measuring stands)
 
-  module _ (stands : Stands s) {m : Measured} (e : measureAnswer m ≡ measuredBy frameLimit (c .x) (c .y) (c .z) readings) where
+  module _ (stands : Stands s) {m : Measured} (e : measureAnswer m ≡ measuredBy frameLimit (c .rows) (c .x) (c .y) (c .z) readings) where
     pub tried-refused : {cause : Cause} → m ≡ Refused cause → triedBy c s readings ≡ refusal cause
     unfolding triedBy
     tried-refused told =
-        let w = measured-refused frameLimit _ _ _ _ e told in
+        let w = measured-refused frameLimit (c .rows) _ _ _ _ e told in
         past stands _ ∙ refuses _ _ _ _ (w .1) ∙ ap (λ (n : ℕ). refused n) (w .2)
 
     pub tried-whole : {sums : Sums} {colour : Colour} {j : Judged} → m ≡ Whole sums → colour ≡ colourOf (c .white .sums) sums →
         j ≡ judgedOf (s .standard) (s .tolerance) colour → triedBy c s readings ≡ judgedAs colour j
     unfolding triedBy
     tried-whole {sums} {colour} told k h =
-        let w = measured-whole frameLimit _ _ _ _ e told in
+        let w = measured-whole frameLimit (c .rows) _ _ _ _ e told in
         past stands _
         ∙ accepts _ _ _ (w .0)
         ∙ ap (λ (x : Colour). judgedAs x (judgedOf (s .standard) (s .tolerance) x)) (ap (colourOf (c .white .sums)) (sym (w .1)) ∙ sym k)

@@ -11,6 +11,6 @@ use Rattle.rules.specs.Standing.{standingChecks}
 abbrev pub frameLimit : ℕ
 frameLimit = readingLimit
 
--- "Trial (spectrum): 6, 7, 8, 10, 1, 2."
-abbrev pub trialChecks : Bool → Bool → Bool → ℕ → List ℕ → List Check
-trialChecks opened standard tolerance count readings = standingChecks opened standard tolerance count ++ spectrumChecks frameLimit readings
+-- "Trial (spectrum): 6, 7, 8, 10, 1, 2.", with the rows of the spacing in force
+abbrev pub trialChecks : Bool → Bool → Bool → ℕ → ℕ → List ℕ → List Check
+trialChecks opened standard tolerance count rows readings = standingChecks opened standard tolerance count ++ spectrumChecks frameLimit rows readings

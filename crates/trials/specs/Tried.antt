@@ -34,8 +34,8 @@ triedAnswer (Answered t) = accepted (trialOutcome t)
 triedAnswer (Refused cause) = refusal cause
 
 -- conditions whose weights are lent
-abbrev pub conditionsBy : List ℕ → List ℕ → List ℕ → WhitePoint → Conditions
-conditionsBy x y z white = record { x = x; y = y; z = z; white = white }
+abbrev pub conditionsBy : ℕ → List ℕ → List ℕ → List ℕ → WhitePoint → Conditions
+conditionsBy rows x y z white = record { rows = rows; x = x; y = y; z = z; white = white }
 
 -- what a judgement answers; past the checks there is a standard and a tolerance to judge by
 abbrev pub judgedAs : Colour → Judged → Numbered TrialOutcome
@@ -45,7 +45,9 @@ judgedAs colour (By e verdict) = accepted (record { colour = colour; e = amountO
 -- "Trial (spectrum): 6, 7, 8, 10, 1, 2. Returns colour, E in the tolerance's space, and the verdict."
 unfoldable pub triedBy : Conditions → Standing → List ℕ → Numbered TrialOutcome
 triedBy c s readings =
-    unless (firstOf (trialChecks (s .opened) (hasStandard (s .standard)) (hasTolerance (s .tolerance)) (tallySum (s .tallies)) readings)) refusal
+    unless
+    (firstOf (trialChecks (s .opened) (hasStandard (s .standard)) (hasTolerance (s .tolerance)) (tallySum (s .tallies)) (c .rows) readings))
+    refusal
     (let colour = colourUnder c readings in judgedAs colour (judgedOf (s .standard) (s .tolerance) colour))
 
 -- what holds of a session that is fresh, or that an earlier call returned or left

@@ -42,17 +42,18 @@ pub enum TrialResult {
     Refused(Cause),
 }
 
-// What a trial of a spectrum finds.
+// What a trial of a spectrum finds, which should have so many rows.
 pub fn tried<'a>(
     standing: Standing,
+    rows: usize,
     white: WhitePoint,
     readings: &[u16],
     x: &'a [u64],
     y: &'a [u64],
     z: &'a [u64],
 ) -> TrialResult
-    requires { ⌜ ValidStanding (conditionsBy (now x) (now y) (now z) white) standing ⌝ }
-    ensures { λ r. ⌜ triedAnswer r ≡ triedBy (conditionsBy (now (x .entry)) (now (y .entry)) (now (z .entry)) white) standing (now (readings .entry)) ⌝ }
+    requires { ⌜ ValidStanding (conditionsBy rows (now x) (now y) (now z) white) standing ⌝ }
+    ensures { λ r. ⌜ triedAnswer r ≡ triedBy (conditionsBy rows (now (x .entry)) (now (y .entry)) (now (z .entry)) white) standing (now (readings .entry)) ⌝ }
 {
     let standard = standing.standard;
     let tolerance = standing.tolerance;
@@ -61,7 +62,7 @@ pub fn tried<'a>(
     if let Checked::Because(cause) = found {
         return TrialResult::Refused(cause);
     }
-    let measured = measure::measure(readings, FRAME_LIMIT, x, y, z);
+    let measured = measure::measure(readings, FRAME_LIMIT, rows, x, y, z);
     let Measured::Whole(sums) = measured else {
         return TrialResult::Refused(measure::cause_of(measured));
     };

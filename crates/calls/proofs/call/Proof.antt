@@ -15,16 +15,18 @@ returns : tie.Need-returns
 returns c = by-tables (read (c .before .before)) (c .before .match .keys1) (c .open-tables .ensures)
 
 returns-2 : tie.Need-returns-2
-returns-2 c = by-light (read (c .before .before .before)) (c .before .before .match .keys2) (c .before .word2 .ensures) (c .open-light .ensures)
+returns-2 c =
+    let t = c .before .before .before in
+    by-light (read (t .before)) (t .match .keys2) (c .before .before .word2 .ensures) (c .before .word3 .ensures) (c .open-light .ensures)
 
 returns-3 : tie.Need-returns-3
 returns-3 c = by-standard (read (c .before .before .before)) (c .before .before .match .keys3) (c .before .spectrum .ensures) (c .set-standard .ensures)
 
 returns-4 : tie.Need-returns-4
-returns-4 c = by-lab (read (c .before .before .before)) (c .before .before .match .keys4) (c .before .word3 .ensures) (c .set-tolerance .ensures)
+returns-4 c = by-lab (read (c .before .before .before)) (c .before .before .match .keys4) (c .before .word4 .ensures) (c .set-tolerance .ensures)
 
 returns-5 : tie.Need-returns-5
-returns-5 c = by-luv (read (c .before .before .before)) (c .before .before .match .keys5) (c .before .word4 .ensures) (c .set-tolerance2 .ensures)
+returns-5 c = by-luv (read (c .before .before .before)) (c .before .before .match .keys5) (c .before .word5 .ensures) (c .set-tolerance2 .ensures)
 
 returns-6 : tie.Need-returns-6
 returns-6 c = by-trial (read (c .before .before .before)) (c .before .before .match .keys6) (c .before .spectrum2 .ensures) (c .trial .ensures)
@@ -43,6 +45,7 @@ pub call-spec : {M : Type 1} → statement M
 call-spec =
     tie.close
     (tie.spec
+    (λ c κs. search needs)
     (λ c κs. search needs)
     (λ c κs. search needs)
     (λ c κs. search needs)

@@ -2,7 +2,7 @@
 use mathlib.Core.Path.{refl, sym, ap, subst}
 use borrow.Author.Needs.{needs}
 use lib.ListN.{replicate}
-use Rattle.cie.specs.Scales.{rows}
+use Rattle.cie.specs.Spacing.{mostRows}
 use Rattle.colour.specs.declared.white.WhitePoint.{WhitePoint}
 use Rattle.conditions.specs.declared.Conditions.{Conditions}
 use Rattle.conditions.specs.Conditions.{noConditions, Sound}
@@ -11,7 +11,7 @@ use Rattle.conditions.proofs.none.Statement.{statement}
 use Rattle.conditions.proofs.none.Tie as tie
 
 abbrev beside : WhitePoint → Conditions
-beside w = record { x = replicate rows 0; y = replicate rows 0; z = replicate rows 0; white = w }
+beside w = record { rows = 0; x = replicate mostRows 0; y = replicate mostRows 0; z = replicate mostRows 0; white = w }
 
 returns : tie.Need-returns
 unfolding noConditions

@@ -19,7 +19,7 @@ abbrev start : tie.After-stands → tie.Start
 start c = c .before .before .before .before .before .before
 
 abbrev conditions : tie.Start → Conditions
-conditions s = conditionsBy (now (s .args .x)) (now (s .args .y)) (now (s .args .z)) (s .args .white)
+conditions s = conditionsBy (s .args .rows) (now (s .args .x)) (now (s .args .y)) (now (s .args .z)) (s .args .white)
 
 fallen : tie.Need-returns
 fallen c =

@@ -5,7 +5,6 @@ use Prim.Native.Nat.{ℕ}
 use borrow.Author.Needs.{needs}
 use lib.ListN.{length}
 use lib.Seq.{sets}
-use Rattle.cie.specs.Scales.{rows}
 use Rattle.endian.specs.Bytes.{le16, bytesOf}
 use Rattle.book.specs.Book.{headLength, countPlace, bodiesAt, contentsOf}
 use Rattle.book_writer.proofs.Stored.{book-stores}
@@ -23,9 +22,9 @@ returns c =
     bodies .put-bodies .ensures
     ∙ ap (λ (d : List ℕ). sets d (bodiesAt (length ns)) (bytesOf (a .spectra .now)))
     (contents .put-contents .ensures
-    ∙ ap (λ (d : List ℕ). sets d headLength (contentsOf rows (bodiesAt (length ns)) ns))
+    ∙ ap (λ (d : List ℕ). sets d headLength (contentsOf (a .rows) (bodiesAt (length ns)) ns))
     (count .write16 .ensures ∙ ap (λ (d : List ℕ). sets d countPlace (le16 (length ns))) (magic .put-magic .ensures)))
-    ∙ book-stores rows (a .buffer .now) ns (a .spectra .now)
+    ∙ book-stores (a .rows) (a .buffer .now) ns (a .spectra .now)
 
 pub put-book-spec : {M : Type 1} → statement M
 put-book-spec =

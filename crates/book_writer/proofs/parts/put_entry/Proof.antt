@@ -4,9 +4,7 @@ use mathlib.Core.List.{List}
 use Prim.Native.Nat.{ℕ, _+_}
 use borrow.Author.Needs.{needs}
 use lib.Seq.{sets}
-use Rattle.cie.specs.Scales.{rows}
 use Rattle.endian.specs.Bytes.{le16, le32}
-use Rattle.book.specs.Book.{bodyLength}
 use Rattle.book_writer.proofs.Stored.{entry-stores}
 use Rattle.book_writer.proofs.parts.put_entry.Statement.{statement}
 use Rattle.book_writer.proofs.parts.put_entry.Tie as tie
@@ -15,12 +13,13 @@ returns : tie.Need-returns
 returns c =
     let third = c .before .before in
     let second = third .before .before .before .before in
-    let first = second .before .before .before .before in
+    let body = second .before .body-length in
+    let first = second .before .before .before .before .before in
     let a = first .before .before .before .args in
     third .write32 .ensures
     ∙ ap (λ (d : List ℕ). sets d (a .at + 4) (le32 (a .offset)))
-    (second .write162 .ensures ∙ ap (λ (d : List ℕ). sets d (a .at + 2) (le16 (bodyLength rows))) (first .write16 .ensures))
-    ∙ entry-stores rows (a .buffer .now) (a .at) (a .number) (a .offset)
+    (second .write162 .ensures ∙ ap (λ (d : List ℕ). sets d (a .at + 2) (le16 (body .result))) (first .write16 .ensures))
+    ∙ entry-stores (a .rows) (a .buffer .now) (a .at) (a .number) (a .offset) (body .ensures)
 
 pub put-entry-spec : {M : Type 1} → statement M
 put-entry-spec =
@@ -28,6 +27,7 @@ put-entry-spec =
     (tie.spec
     (λ c κs. search needs)
     (λ c. search needs)
+    (λ c κs. search needs)
     (λ c. search needs)
     (λ c κs. search needs)
     (λ c. search needs)

@@ -6,7 +6,7 @@ use Rattle.cie.proofs.tables.illuminant_a.Tie as tie
 
 returns : tie.Need-returns
 unfolding illuminantA
-returns c = refl
+returns c = c .table-at .ensures
 
 pub illuminant-a-spec : {M : Type 1} → statement M
-illuminant-a-spec = tie.close (tie.spec returns)
+illuminant-a-spec = tie.close (tie.spec (λ c κs. refl) returns)

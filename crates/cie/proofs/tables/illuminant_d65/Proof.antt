@@ -6,7 +6,7 @@ use Rattle.cie.proofs.tables.illuminant_d65.Tie as tie
 
 returns : tie.Need-returns
 unfolding illuminantD65
-returns c = refl
+returns c = c .table-at .ensures
 
 pub illuminant-d65-spec : {M : Type 1} → statement M
-illuminant-d65-spec = tie.close (tie.spec returns)
+illuminant-d65-spec = tie.close (tie.spec (λ c κs. refl) returns)

@@ -6,7 +6,7 @@ use Rattle.cie.proofs.tables.observer_x.Tie as tie
 
 returns : tie.Need-returns
 unfolding observerX
-returns c = refl
+returns c = c .table-at .ensures
 
 pub observer-x-spec : {M : Type 1} → statement M
-observer-x-spec = tie.close (tie.spec returns)
+observer-x-spec = tie.close (tie.spec (λ c κs. refl) returns)

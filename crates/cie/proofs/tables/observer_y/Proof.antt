@@ -6,7 +6,7 @@ use Rattle.cie.proofs.tables.observer_y.Tie as tie
 
 returns : tie.Need-returns
 unfolding observerY
-returns c = refl
+returns c = c .table-at .ensures
 
 pub observer-y-spec : {M : Type 1} → statement M
-observer-y-spec = tie.close (tie.spec returns)
+observer-y-spec = tie.close (tie.spec (λ c κs. refl) returns)

@@ -6,7 +6,7 @@ use Rattle.cie.proofs.tables.observer_z.Tie as tie
 
 returns : tie.Need-returns
 unfolding observerZ
-returns c = refl
+returns c = c .table-at .ensures
 
 pub observer-z-spec : {M : Type 1} → statement M
-observer-z-spec = tie.close (tie.spec returns)
+observer-z-spec = tie.close (tie.spec (λ c κs. refl) returns)

@@ -32,12 +32,12 @@ sums-of-requires c κs =
     let s = start c in
     let fair = sym (c .before .over-bright .ensures) ∙ c .if2 .left in (
       record {
-        few = omega (arith, c .before .before .if1 .left);
+        few = omega (arith, c .before .before .if1 .left, s .pre .1);
         scale = above-wider (s .args .limit) readingLimit (s .args .readings .now) (s .pre .0) fair;
       },
-      s .pre .1,
       s .pre .2,
       s .pre .3,
+      s .pre .4,
     )
 
 returns-3 : tie.Need-returns-3

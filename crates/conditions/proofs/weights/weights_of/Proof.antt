@@ -7,17 +7,18 @@ use borrow.Author.Needs.{needs}
 use lib.ListN.{length, drop, getD, set, replicate, length-set}
 use lib.Seq.{sets}
 use Rattle.stores.proofs.Runs.{run-more, run-ended}
-use Rattle.cie.specs.Scales.{rows}
-use Rattle.conditions.specs.Weights.{productsOf}
-use Rattle.conditions.proofs.Products.{products-length, products-at, weights-stored}
+use Rattle.cie.specs.Spacing.{mostRows}
+use Rattle.cie.proofs.TableRows.{filled-stored}
+use Rattle.conditions.specs.Weights.{productsOf, weightsOf}
+use Rattle.conditions.proofs.Products.{products-length, products-at}
 use Rattle.conditions.proofs.weights.weights_of.Statement.{statement}
 use Rattle.conditions.proofs.weights.weights_of.Tie as tie
 
 abbrev Inv-loop : tie.InvT-loop
 Inv-loop illuminant column weights₀ i₀ weights i =
     (i ≤ length illuminant)
-    × (length weights ≡ rows)
-    × (sets weights i (drop i (productsOf illuminant column)) ≡ sets (replicate rows 0) 0 (productsOf illuminant column))
+    × (length weights ≡ mostRows)
+    × (sets weights i (drop i (productsOf illuminant column)) ≡ sets (replicate mostRows 0) 0 (productsOf illuminant column))
 
 abbrev μ-loop : tie.MeasureT-loop
 μ-loop illuminant column weights₀ i₀ weights i = length illuminant - i
@@ -47,13 +48,14 @@ loop-again c =
     )
 
 returns : tie.Need-returns Inv-loop μ-loop
+unfolding weightsOf
 returns c =
     let l = c .before .loop in
     let s = c .before .before in
     let x = s .args .illuminant .now in
     let y = s .args .column .now in
     let n = products-length x y (s .pre .1) in
-    sym (run-ended (l .weights) (productsOf x y) (l .i) (omega arith)) ∙ l .inv .2 ∙ weights-stored x y (s .pre .1) (s .pre .0)
+    sym (run-ended (l .weights) (productsOf x y) (l .i) (omega arith)) ∙ l .inv .2 ∙ filled-stored (productsOf x y) (omega (arith, n, s .pre .0))
 
 pub weights-of-spec : {M : Type 1} → statement M
 weights-of-spec =

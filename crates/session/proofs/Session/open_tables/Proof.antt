@@ -13,7 +13,7 @@ use Rattle.session.proofs.Session.open_tables.Tie as tie
 
 -- what is opened, as it stands at the start
 abbrev tables : tie.Start → Tables
-tables c = tablesOf (now (c .args .illuminant)) (now (c .args .x)) (now (c .args .y)) (now (c .args .z))
+tables c = tablesOf (c .args .spacing) (now (c .args .illuminant)) (now (c .args .x)) (now (c .args .y)) (now (c .args .z))
 
 returns : tie.Need-returns
 returns c =

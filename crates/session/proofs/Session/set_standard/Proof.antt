@@ -23,7 +23,7 @@ tested c = c .before .before .before .before .before .before .before
 measure-requires : tie.Need-measure-requires
 measure-requires c κs =
     let s = tested c .before .before .pre .standing .sound in
-    (omega arith, s .weights-x, s .weights-y, s .weights-z)
+    (omega arith, s .few, s .weights-x, s .weights-y, s .weights-z)
 
 unmeasured : tie.Need-returns-2
 unmeasured c =
