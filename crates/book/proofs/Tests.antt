@@ -7,7 +7,7 @@ use native.Mathlib.Nat.{mul-zero}
 use native.Mathlib.Numerals.{add-one}
 use mathlib.Core.List.{List, [], _∷_, _++_}
 use lib.ListN.{length, getD, take, drop, length-append, drop-of-length-le}
-use lib.Seq.{drop-cons, take-at, length-take-le}
+use lib.Seq.{drop-cons, take-at}
 use lib.Dec.{eqb}
 use borrow.Author.Tests.{lt-ltb, le-ltb, eq-eqb, ne-eqb, not-true, not-false}
 use Rattle.cie.specs.Scales.{anyAbove}
@@ -94,22 +94,19 @@ pub bodies-end : (limit rows : ℕ) (s : List ℕ) (at n : ℕ) → n ≤ 0 → 
 unfolding anyAbove words
 bodies-end limit rows s at n h = let z : n ≡ 0 = omega arith in let e : rows * n ≡ 0 = ap (λ (k : ℕ). rows * k) z ∙ mul-zero rows in rw e
 
--- a body read into the front of an array: the front is as long as the rows, and holds the body
-module _ (s : List ℕ) (at rows : ℕ) (array : List ℕ) (h : rows ≤ length array) where
-  pub front-length : rows ≡ length (take rows array)
-  front-length = sym (length-take-le rows array h)
+-- a body read into the front of an array, which has the rows: the front holds the body
+module _ (s : List ℕ) (at rows : ℕ) (array : List ℕ) (n : length (take rows array) ≡ rows) {front : List ℕ}
+    (e : front ≡ words s at 2 (length (take rows array))) where
+  pub front-read : take rows (front ++ drop rows array) ≡ words s at 2 rows
+  front-read =
+      let f : front ≡ words s at 2 rows = e ∙ ap (words s at 2) n in
+      take-at front (drop rows array) rows (ap length f ∙ length-words s at 2 rows) ∙ f
 
-  module _ {front : List ℕ} (e : front ≡ words s at 2 (length (take rows array))) where
-    pub front-read : take rows (front ++ drop rows array) ≡ words s at 2 rows
-    front-read =
-        let f : front ≡ words s at 2 rows = e ∙ ap (words s at 2) (sym front-length) in
-        take-at front (drop rows array) rows (ap length f ∙ length-words s at 2 rows) ∙ f
+  pub front-kept : rows ≡ length (take rows (front ++ drop rows array))
+  front-kept = sym (ap length front-read ∙ length-words s at 2 rows)
 
-    pub front-kept : rows ≡ length (take rows (front ++ drop rows array))
-    front-kept = sym (ap length front-read ∙ length-words s at 2 rows)
-
-    pub front-within : rows ≤ length (front ++ drop rows array)
-    front-within = omega (arith, length-append front (drop rows array), ap length e, length-words s at 2 (length (take rows array)), front-length)
+  pub front-within : rows ≤ length (front ++ drop rows array)
+  front-within = omega (arith, length-append front (drop rows array), ap length e, length-words s at 2 (length (take rows array)), n)
 
 -- the place of a number
 module _ (l : List ℕ) (i k : ℕ) (h : i < length l) where

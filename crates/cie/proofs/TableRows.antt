@@ -3,7 +3,7 @@ use mathlib.Core.Path.{_≡_, refl, sym, ap, _∙_}
 use mathlib.Core.Bool.{Bool, true, false, cond, not, _||_, true≢false}
 use mathlib.Core.Logic.{_⊎_, inl, inr}
 use mathlib.Core.List.{List, [], _∷_, _++_, append-nil}
-use Prim.Native.Nat.{ℕ, zero, suc, _+_, _-_, _*_, _≤_, _<_}
+use Prim.Native.Nat.{ℕ, zero, suc, _+_, _-_, _*_, _≤_}
 use native.Mathlib.Omega.{arith}
 use borrow.Author.Tests.{eqb-true}
 use lib.Dec.{eqb, lit≤}
@@ -13,15 +13,7 @@ use Rattle.stores.proofs.Runs.{sets-front}
 use Rattle.cie.specs.Spacing.{fineSpacing, coarseSpacing, unknownSpacing, coarseRows, mostRows, rowsAt, filled, spectrumBytes, spacingTold}
 use Rattle.cie.specs.Lights.{everySecond, tableAt}
 
--- every spacing has rows, and none more than 81
-pub rows-some : (spacing : ℕ) → 0 < rowsAt spacing
-unfolding rowsAt
-rows-some spacing = go (eqb spacing coarseSpacing)
-  where
-    go : (t : Bool) → 0 < cond t coarseRows mostRows
-    go true = lit≤ tt
-    go false = lit≤ tt
-
+-- no spacing has more than 81 rows
 pub rows-few : (spacing : ℕ) → rowsAt spacing ≤ mostRows
 unfolding rowsAt
 rows-few spacing = go (eqb spacing coarseSpacing)
@@ -30,18 +22,20 @@ rows-few spacing = go (eqb spacing coarseSpacing)
     go true = lit≤ tt
     go false = lit≤ tt
 
--- places for rows, that are lent of an array of zeros with room for the most
 abbrev zeros : ℕ → List ℕ
 zeros n = replicate n 0
 
 length-zeros : (n : ℕ) → length (zeros n) ≡ n
 length-zeros n = length-replicate {A = ℕ} n 0
 
+-- the front of an array with room for the most rows, as a program lends it, and places for rows, of an array of zeros
+pub part-length : {n : ℕ} (array : List ℕ) → n ≤ mostRows → length array ≡ mostRows → length (take n array) ≡ n
+part-length {n} array h e = length-take-le n array (omega arith)
+
 pub places-length : {n : ℕ} → n ≤ mostRows → length (take n (zeros mostRows)) ≡ n
-places-length {n} h = length-take-le n (zeros mostRows) h
+places-length h = part-length (zeros mostRows) h (length-zeros mostRows)
 
 -- rows in such an array: how long it is, what a program's stores make of zeros, and that the rows are its front
-
 module _ (rows : List ℕ) (few : length rows ≤ mostRows) where
   pub filled-length : length (filled rows) ≡ mostRows
   unfolding filled

@@ -2,12 +2,11 @@
 use mathlib.Core.Path.{_≡_, refl, sym, _∙_, ap}
 use mathlib.Core.Bool.{false, cond}
 use mathlib.Core.List.{List}
-use Prim.Native.Nat.{ℕ, _≤_}
+use Prim.Native.Nat.{ℕ}
 use native.Mathlib.Omega.{arith}
 use borrow.Author.Tests.{eq-eqb, ne-eqb}
 use lib.Dec.{eqb}
 use lib.ListN.{length, take}
-use lib.Seq.{length-take-le}
 use Rattle.causes.specs.declared.Cause.the-variants.{NoSuchLight}
 use Rattle.causes.specs.Causes.{causeNumber, refused}
 use Rattle.causes.proofs.Checks.{accepts, fires, passes, ends}
@@ -38,10 +37,6 @@ module _ (spacing : ℕ) (table : List ℕ) {array : List ℕ} (h : length table
 
   pub held-front : take (rowsAt spacing) array ≡ tableAt spacing table
   held-front = ap (take (rowsAt spacing)) e ∙ filled-front (tableAt spacing table) (rowsAt spacing) (table-length spacing table h)
-
--- the front of an array, as a program lends it
-pub part-length : {rows : ℕ} (array : List ℕ) → rows ≤ mostRows → length array ≡ mostRows → rows ≡ length (take rows array)
-part-length {rows} array h e = sym (length-take-le rows array (omega arith))
 
 -- the tables of an illuminant with the built-in observer, as a program lends them
 pub lent : (spacing : ℕ) (i : List ℕ) {rows : ℕ} {x y z : List ℕ} → rows ≡ rowsAt spacing →

@@ -1,9 +1,10 @@
 -- `conditions::prepare_observed` meets its contract: the fronts of the arrays are the tables at the spacing. Assumes nothing.
-use mathlib.Core.Path.{ap}
+use mathlib.Core.Path.{sym, ap}
 use borrow.Author.Needs.{needs}
 use Rattle.cie.specs.Tables.{observerX, observerY, observerZ}
+use Rattle.cie.proofs.TableRows.{part-length}
 use Rattle.conditions.specs.Conditions.{preparedOf}
-use Rattle.conditions.proofs.Lights.{whole, held-length, part-length, lent}
+use Rattle.conditions.proofs.Lights.{whole, held-length, lent}
 use Rattle.conditions.proofs.Answers.{prepares-as}
 use Rattle.conditions.proofs.prepare_observed.Statement.{statement}
 use Rattle.conditions.proofs.prepare_observed.Tie as tie
@@ -31,18 +32,18 @@ prepare-observed-spec =
     (λ c κs. search needs)
     (λ c κs. search needs)
     (λ c. search needs)
-    (λ c. let r = c .before .before .before .before in part-length _ (r .rows-at .ensures .2) (r .before .pre))
+    (λ c. let r = c .before .before .before .before in sym (part-length _ (r .rows-at .ensures .2) (r .before .pre)))
     (λ c. search needs)
     (λ c.
     let o = c .before .before .before .before in
-    part-length _ (o .before .rows-at .ensures .2) (held-length _ observerX (whole .x) (o .observer-x .ensures)))
+    sym (part-length _ (o .before .rows-at .ensures .2) (held-length _ observerX (whole .x) (o .observer-x .ensures))))
     (λ c. search needs)
     (λ c.
     let o = c .before .before .before .before in
-    part-length _ (o .before .before .rows-at .ensures .2) (held-length _ observerY (whole .y) (o .observer-y .ensures)))
+    sym (part-length _ (o .before .before .rows-at .ensures .2) (held-length _ observerY (whole .y) (o .observer-y .ensures))))
     (λ c. search needs)
     (λ c.
     let o = c .before .before .before .before in
-    part-length _ (o .before .before .before .rows-at .ensures .2) (held-length _ observerZ (whole .z) (o .observer-z .ensures)))
+    sym (part-length _ (o .before .before .before .rows-at .ensures .2) (held-length _ observerZ (whole .z) (o .observer-z .ensures))))
     (λ c κs. search needs)
     returns)
