@@ -26,6 +26,10 @@ class Chance:
     def pick(self, choices):
         return choices[self.below(len(choices))]
 
+    def shuffled(self, things):
+        left = list(things)
+        return [left.pop(self.below(len(left))) for _ in things]
+
     def bytes(self, count):
         words = [self.word().to_bytes(8, "little") for _ in range(count // 8 + 1)]
         return b"".join(words)[:count]

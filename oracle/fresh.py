@@ -5,15 +5,16 @@ from collections import Counter
 import exact
 from chance import Chance
 from colour import colour, difference
-from ledger import GUARD, Ledger, Preview, Trial
+from inspection import old_trials
+from ledger import GUARD, INSPECTION_TABLES, VERDICTS, Ledger, Preview, Trial
 from lines import (
-    OTHER, REPORT, TOO_LARGE, UNKNOWN_SPACINGS, any_spectrum, changed, few_rows_tables,
-    full_tables, largest_tables, light, near_spectrum, opening, preview, standard, tolerance,
-    trial,
+    NO_SUCH_TABLES, OTHER, REPORT, TOO_LARGE, UNKNOWN_SPACINGS, any_spectrum, changed,
+    few_rows_tables, full_tables, largest_tables, light, near_spectrum, opening, preview,
+    smooth_spectrum, standard, tolerance, trial,
 )
 from published import flat, three_rows
-from replay import READING_BITS, Step, answer, whole_table
-from spacings import old_forms
+from replay import Step, answer, at_table
+from spacings import old_openings
 from tables import LENGTHS
 from unreadable import unreadable
 
@@ -30,7 +31,7 @@ class CallList:
         self.chance = Chance(seed)
         self.ledger = Ledger()
         self.lines, self.steps, self.misjudged = [], [], []
-        self.judged = Counter()  # trials and previews, by spacing and verdict
+        self.judged = Counter()  # trials and previews, by verdict, spacing and inspection table
 
     def say(self, line):
         self.lines.append(line)
@@ -39,16 +40,16 @@ class CallList:
         step = Step(len(self.lines), line, *answer(self.ledger, line))
         self.steps.append(step)
         if isinstance(step.result, (Trial, Preview)):
-            self.judged[self.ledger.conditions.spacing, step.result.verdict] += 1
-            if not self.holds(step.result, line):
-                self.misjudged.append(step)
+            self.weigh(step)
 
-    def holds(self, judged, line):
-        """The exact difference bears the verdict out."""
-        spectrum = whole_table(line.split(b" ")[1:], READING_BITS)
-        held = self.ledger
-        return exact.verdict_holds(
-            judged.verdict, *held.tolerance, held.standard, spectrum, held.conditions)
+    def weigh(self, step):
+        """Counts a verdict; it is misjudged unless the exact difference bears it out."""
+        table_number, spectrum = at_table(step.line.split(b" ")[1:])
+        held, verdict = self.ledger, step.result.verdict
+        self.judged[verdict, held.conditions.spacing, table_number] += 1
+        if not exact.verdict_holds(
+                verdict, *held.tolerance, held.standard, spectrum, held.conditions):
+            self.misjudged.append(step)
 
     def script(self):
         ending = b"" if self.chance.one_in(4) else b"\n"
@@ -68,6 +69,13 @@ class CallList:
         if self.chance.one_in(12):
             spacing = OTHER[spacing]
         return self.chance.pick(SPACING_WORDS[spacing])
+
+    def table_number(self):
+        """Of an inspection table; now and then there is none of that number."""
+        if self.chance.one_in(12):
+            return self.chance.pick(NO_SUCH_TABLES)
+        number = self.chance.pick(INSPECTION_TABLES)
+        return f"00{number}" if self.chance.one_in(12) else number
 
     def a_spectrum(self):
         """Mostly of the spacing in force."""
@@ -127,15 +135,15 @@ class CallList:
         return self.maybe_bad(spectrum)
 
     def enter_trial(self):
-        self.say(trial(self.swatch()))
+        self.say(trial(self.table_number(), self.swatch()))
 
     def look(self):
         """A few previews, then perhaps the trial itself, and perhaps a report."""
-        spectrum = self.swatch()
+        table_number, spectrum = self.table_number(), self.swatch()
         for _ in range(self.chance.between(1, 3)):
-            self.say(preview(spectrum))
+            self.say(preview(table_number, spectrum))
         if self.chance.one_in(2):
-            self.say(trial(spectrum))
+            self.say(trial(table_number, spectrum))
         if self.chance.one_in(2):
             self.say(REPORT)
 
@@ -147,13 +155,18 @@ class CallList:
             return self.enter_standard()
         spectrum = near_spectrum(self.chance, held.standard)
         for _ in range(self.chance.between(1, 4)):
-            space = self.chance.pick(("lab", "luv"))
-            E = difference(space, *(colour(s, held.conditions) for s in (held.standard, spectrum)))
-            edge = self.chance.pick((-GUARD[space], GUARD[space])) + self.chance.between(-1, 1)
-            self.say(tolerance(space, max(E + edge, 0)))
+            self.tolerance_near(spectrum)
+            table_number = self.table_number()
             if self.chance.one_in(2):
-                self.say(preview(spectrum))
-            self.say(trial(spectrum))
+                self.say(preview(table_number, spectrum))
+            self.say(trial(table_number, spectrum))
+
+    def tolerance_near(self, spectrum):
+        """At an edge of the guard of the spectrum's difference."""
+        held, space = self.ledger, self.chance.pick(("lab", "luv"))
+        E = difference(space, *(colour(s, held.conditions) for s in (held.standard, spectrum)))
+        edge = self.chance.pick((-GUARD[space], GUARD[space])) + self.chance.between(-1, 1)
+        self.say(tolerance(space, max(E + edge, 0)))
 
     def say_report(self):
         self.say(REPORT)
@@ -172,7 +185,7 @@ class CallList:
         self.say(bytes(line))
 
 
-UNREADABLE = unreadable() + old_forms()
+UNREADABLE = unreadable() + old_openings() + old_trials()
 MOVES = (
     [CallList.open_light] * 3 + [CallList.open_tables] * 2 + [CallList.enter_standard] * 5
     + [CallList.enter_tolerance] * 4 + [CallList.enter_trial] * 10 + [CallList.look] * 5
@@ -198,3 +211,33 @@ def call_list(seed):
     for _ in range(made.chance.pick((1, 5, 40, 80))):
         made.chance.pick(MOVES)(made)
     return made
+
+
+def reordered(seed):
+    """Lists that are alike but for the order of the trials at their end, before a report. Some of
+    these are refused."""
+    made = call_list(seed)
+    chance, spacing = made.chance, made.chance.pick((5, 10))
+    one = smooth_spectrum(chance, 500, 9_500, spacing)
+    near = near_spectrum(chance, one)
+    made.say(light(chance.between(1, 2), spacing))
+    made.say(standard(one))
+    made.tolerance_near(near)
+    trials = [trial(made.table_number(), chance.pick((one, near, made.swatch())))
+              for _ in range(40)]
+    orders = trials, trials[::-1], chance.shuffled(trials)
+    return [written_list(b"\n".join([*made.lines, *order, REPORT])) for order in orders]
+
+
+def told(judged):
+    """How often each verdict came, at each spacing and at each inspection table."""
+    said = []
+    for verdict in VERDICTS:
+        at_spacing, at_number = Counter(), Counter()
+        for (given, spacing, table_number), times in judged.items():
+            at_spacing[spacing] += times * (given == verdict)
+            at_number[table_number] += times * (given == verdict)
+        spacings = ", ".join(f"{at_spacing[spacing]} at {spacing} nm" for spacing in LENGTHS)
+        numbers = " ".join(str(at_number[number]) for number in INSPECTION_TABLES)
+        said.append(f"{verdict} {spacings}, by table {numbers}")
+    return "; ".join(said)

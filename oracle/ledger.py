@@ -10,14 +10,15 @@ from tables import LENGTHS, LIGHTS, light_tables
 
 SHORT_TABLE, OVER_BRIGHT, OFF_SCALE_CONDITION, DARK_WHITE, LOPSIDED_WHITE = 1, 2, 3, 4, 5
 NO_CONDITIONS, NO_STANDARD, NO_TOLERANCE, TOLERANCE_OFF_SCALE, SESSION_FULL = 6, 7, 8, 9, 10
-NO_SUCH_LIGHT, UNKNOWN_SPACING = 16, 17
+NO_SUCH_LIGHT, UNKNOWN_SPACING, NO_SUCH_TABLE = 16, 17, 18
 
 READING_LIMIT = 20_000
 ILLUMINANT_LIMIT = 3_000_000
 OBSERVER_LIMIT = 2_000_000
 TOLERANCE_LIMIT = 1_000_000
-TALLY_LIMIT = 100_000
+TALLY_LIMIT = 100_000  # of one inspection table's three tallies together
 
+INSPECTION_TABLES = range(1, 9)  # their numbers
 GUARD = {"lab": 12, "luv": 114}  # g
 VERDICTS = ("pass", "fail", "line")
 
@@ -87,7 +88,7 @@ class Ledger:
         self.conditions = None
         self.standard = None
         self.tolerance = None
-        self.counts = dict.fromkeys(VERDICTS, 0)
+        self.counts = {number: dict.fromkeys(VERDICTS, 0) for number in INSPECTION_TABLES}
 
     def open_light(self, light, spacing):
         self.enter(built_in(light, spacing))
@@ -110,13 +111,15 @@ class Ledger:
         refuse_when((TOLERANCE_OFF_SCALE, lambda: amount > TOLERANCE_LIMIT))
         self.tolerance = Tolerance(space, amount)
 
-    def work_out(self, spectrum):
-        """Verdict, E and colour of a trial, or of a preview of one; nothing is counted."""
+    def work_out(self, table_number, spectrum):
+        """Verdict, E and colour of a trial at an inspection table, or of a preview of one; nothing
+        is counted."""
         refuse_when(
+            (NO_SUCH_TABLE, lambda: table_number not in INSPECTION_TABLES),
             (NO_CONDITIONS, lambda: self.conditions is None),
             (NO_STANDARD, lambda: self.standard is None),
             (NO_TOLERANCE, lambda: self.tolerance is None),
-            (SESSION_FULL, lambda: sum(self.counts.values()) >= TALLY_LIMIT),
+            (SESSION_FULL, lambda: sum(self.counts[table_number].values()) >= TALLY_LIMIT),
             *spectrum_checks(spectrum, self.conditions),
         )
         space, T = self.tolerance
@@ -124,13 +127,15 @@ class Ledger:
         E = difference(space, colour(self.standard, self.conditions), own)
         return judge(space, E, T), E, own
 
-    def trial(self, spectrum):
-        done = Trial(*self.work_out(spectrum))
-        self.counts[done.verdict] += 1
+    def trial(self, table_number, spectrum):
+        done = Trial(*self.work_out(table_number, spectrum))
+        self.counts[table_number][done.verdict] += 1
         return done
 
-    def preview(self, spectrum):
-        return Preview(*self.work_out(spectrum))
+    def preview(self, table_number, spectrum):
+        return Preview(*self.work_out(table_number, spectrum))
 
     def report(self):
-        return tuple(self.counts[verdict] for verdict in VERDICTS)
+        """The tallies of all inspection tables, one table after the other."""
+        return tuple(self.counts[number][verdict]
+                     for number in INSPECTION_TABLES for verdict in VERDICTS)

@@ -1,5 +1,6 @@
 """Lines of a replay script, and spectra and tables to fill them."""
 
+from ledger import INSPECTION_TABLES
 from published import filled, flat
 from tables import LENGTHS
 
@@ -24,17 +25,12 @@ def tolerance(space, amount):
     return f"tolerance {space} {amount}".encode()
 
 
-def trial(spectrum):
-    return f"trial {counted(spectrum)}".encode()
+def trial(table_number, spectrum):
+    return f"trial {table_number} {counted(spectrum)}".encode()
 
 
-def preview(spectrum):
-    return f"preview {counted(spectrum)}".encode()
-
-
-def seen_first(*spectra):
-    """Each spectrum previewed and then tried."""
-    return [line for spectrum in spectra for line in (preview(spectrum), trial(spectrum))]
+def preview(table_number, spectrum):
+    return f"preview {table_number} {counted(spectrum)}".encode()
 
 
 REPORT = b"report"
@@ -46,6 +42,33 @@ UNKNOWN_SPACINGS = (
     0, 1, 4, 6, 9, 11, 15, 20, 41, 50, 81, 100, 261, 266, 2**16 + 5, 2**16 + 10, 2**32 - 1,
     2**32 + 5, 2**32 + 10, 2**64 + 5, 2**64 + 10, 10**64 + 5, 10**64 + 10,
 )
+
+# Cut to their low bits or low digits, or counted round from 8 to 1, most would be 1 to 8.
+NO_SUCH_TABLES = (
+    0, 9, 10, 16, 17, 18, 81, 100, 255, 256, 257, 2**16 + 8, 2**31 + 1, 2**32 - 8, 2**32 - 1,
+    2**32, 2**32 + 1, 2**32 + 8, 2**64 - 1, 2**64, 2**64 + 1, TOO_LARGE,
+)
+
+
+def by_turns(place):
+    """The number of the inspection table whose turn it is."""
+    return INSPECTION_TABLES[place % len(INSPECTION_TABLES)]
+
+
+def seen_at(table_number, *spectra):
+    """Each spectrum previewed and then tried at one inspection table."""
+    return [line(table_number, spectrum) for spectrum in spectra for line in (preview, trial)]
+
+
+def seen_by_turns(*spectra):
+    """Each spectrum previewed and then tried, at the inspection tables by turns."""
+    return [line for place, spectrum in enumerate(spectra)
+            for line in seen_at(by_turns(place), spectrum)]
+
+
+def seen_nowhere(*spectra, numbers=(0, 9, 2**32 + 1)):
+    """Each spectrum previewed and tried at every number, where there is no inspection table."""
+    return [line for number in numbers for line in seen_at(number, *spectra)]
 
 
 def changed(entries, at, entry):

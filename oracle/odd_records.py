@@ -1,10 +1,12 @@
-"""Records of calls of every odd kind: words that nobody meant, parts at the end of a pool and past
-it, buffers that are too short."""
+"""Records of calls of every odd kind: words that nobody meant, numbers of no inspection table,
+parts at the end of a pool and past it, buffers that are too short."""
 
 from array import array
+from functools import partial
 
-from lines import OTHER, any_spectrum, changed
-from published import three_rows
+from ledger import INSPECTION_TABLES
+from lines import NO_SUCH_TABLES, OTHER, any_spectrum, by_turns, changed
+from published import flat, three_rows
 from records import (
     ANSWER_WORDS, CALL_WORDS, OPEN_TABLES, PREVIEW, READING, STANDARD, TRIAL, WORD, WORD_BYTES,
     WORD_LIMIT, Recorder, Run, answers_size, any_words, call_count, put,
@@ -37,14 +39,34 @@ def parts_at_the_end(chance, spacing):
     held.open_light(2, spacing)
     held.enter_tolerance("luv", 1_000_000)
     rows, other = LENGTHS[spacing], LENGTHS[OTHER[spacing]]
-    for words in (*ends(len(held.spectra), rows), *ends(len(held.spectra), other)):
+    spectra = *ends(len(held.spectra), rows), *ends(len(held.spectra), other)
+    for place, words in enumerate(spectra):
         held.write(STANDARD, *words)
-        held.write(TRIAL, *words)
-        held.write(PREVIEW, *words)
+        held.write(TRIAL, *words, by_turns(place))
+        held.write(PREVIEW, *words, by_turns(place))
     for place in range(len(whole)):
         for words in (*ends(len(held.tables), rows), *ends(len(held.tables), other)):
             parts = changed(whole, place, words)
             held.write(OPEN_TABLES, *(word for table in parts for word in table), spacing)
+    return held.run()
+
+
+def at_every_table(chance):
+    """A short and a whole spectrum previewed and tried at each inspection table and at words that
+    are none: with nothing opened, no standard, no tolerance, and then all of them."""
+    held = Recorder(chance)
+    start, rows = put(held.spectra, flat(50, 10))
+    numbers = *INSPECTION_TABLES, *(number for number in NO_SUCH_TABLES if number < WORD_LIMIT)
+    for settle in (
+        held.report, partial(held.open_light, 1, 10), partial(held.write, STANDARD, start, rows),
+        partial(held.enter_tolerance, "lab", 12),
+    ):
+        settle()
+        for number in numbers:
+            for count in (rows - 1, rows):
+                held.write(PREVIEW, start, count, number)
+                held.write(TRIAL, start, count, number)
+            held.report()
     return held.run()
 
 
@@ -73,6 +95,7 @@ def odd_runs(chance, runs):
     yield from empty_lists(chance)
     for spacing in LENGTHS:
         yield parts_at_the_end(chance, spacing)
+    yield at_every_table(chance)
     for limit in (CALL_WORDS + 1, LENGTHS[5] + 1, WORD_LIMIT):
         yield any_run(chance, limit)
     for run in runs[::3]:

@@ -133,9 +133,9 @@ def check_three_rows(spacing):
     verdicts = {232012: "pass", 232011: "line", 231989: "line", 231988: "fail"}
     for amount, verdict in verdicts.items():
         ledger.enter_tolerance("lab", amount)
-        judged = ledger.trial(flat(270, spacing))
+        judged = ledger.trial(2, flat(270, spacing))
         assert (judged.difference, judged.verdict) == (232000, verdict), amount
-    assert ledger.report() == (1, 1, 2)
+    assert ledger.report() == (0, 0, 0, 1, 1, 2, *[0] * 18)
 
 
 def check_all():

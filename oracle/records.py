@@ -8,9 +8,10 @@ import replay
 from book import SHORT_BUFFER
 from book_calls import REFUSAL
 from colour import Colour
-from ledger import VERDICTS, Ledger, Preview, Refused, Trial
+from ledger import INSPECTION_TABLES, VERDICTS, Ledger, Preview, Refused, Trial
 
 CALL_WORDS, ANSWER_WORDS, COLOUR_WORDS = 10, 32, 13
+TALLY_WORDS = len(INSPECTION_TABLES) * len(VERDICTS)
 OPEN_TABLES, OPEN_LIGHT, STANDARD, TOLERANCE_LAB, TOLERANCE_LUV, TRIAL, PREVIEW = range(1, 8)
 ACCEPTED, COLOURED, TRIED, COUNTED, REFUSED, PREVIEWED = range(6)
 JUDGED = {TRIED: Trial, PREVIEWED: Preview}
@@ -71,11 +72,11 @@ class Recorder:
     def enter_tolerance(self, space, amount):
         self.write(TOLERANCE_LAB if space == "lab" else TOLERANCE_LUV, amount)
 
-    def trial(self, spectrum):
-        self.write(TRIAL, *put(self.spectra, spectrum))
+    def trial(self, table_number, spectrum):
+        self.write(TRIAL, *put(self.spectra, spectrum), table_number)
 
-    def preview(self, spectrum):
-        self.write(PREVIEW, *put(self.spectra, spectrum))
+    def preview(self, table_number, spectrum):
+        self.write(PREVIEW, *put(self.spectra, spectrum), table_number)
 
     def report(self):
         self.write(self.chance.pick((0, PREVIEW + 1, WORD_LIMIT - 1)))
@@ -137,9 +138,9 @@ def call(ledger, run, at):
     if kind == TOLERANCE_LUV:
         return ledger.enter_tolerance("luv", words[0])
     if kind == TRIAL:
-        return ledger.trial(part(run.spectra, *words[:2]))
+        return ledger.trial(words[2], part(run.spectra, *words[:2]))
     if kind == PREVIEW:
-        return ledger.preview(part(run.spectra, *words[:2]))
+        return ledger.preview(words[2], part(run.spectra, *words[:2]))
     return ledger.report()
 
 
@@ -201,7 +202,7 @@ def result_of(words):
         judged = JUDGED[kind](VERDICTS[verdict % len(VERDICTS)], E, colour_of(told[:COLOUR_WORDS]))
         return judged, SPACES[space % len(SPACES)]
     if kind == COUNTED:
-        return tuple(told[:len(VERDICTS)]), None
+        return tuple(told[:TALLY_WORDS]), None
     return (Refused(told[0]) if kind == REFUSED else None), None
 
 

@@ -5,9 +5,11 @@ Rules where the design's text is silent:
   line is passed over.
 - Words are apart by exactly one space; no leading or trailing space, no extra word.
 - A number is one or more of the digits 0 to 9; leading zeros are allowed, signs are not. One too
-  large for its place counts as the largest that fits there: readings have 16 bits; table entries,
-  the tolerance's amount, the light number and the spacing have 32; a length has 64.
-- A table or spectrum has any length, 0 included, but as many numbers must follow as it says.
+  large for its place counts as the largest that fits there: readings have 16 bits; entries of an
+  opening's tables, the tolerance's amount, the light number, the spacing and the number of an
+  inspection table have 32; a length has 64.
+- An opening's table or a spectrum has any length, 0 included, but as many numbers must follow as it
+  says.
 - A line that was a call in the form of an earlier job is read in the form of today: where its
   numbers happen to fit that, it is the call that they say.
 Any other line is unreadable and is no call.
@@ -15,9 +17,11 @@ Any other line is unreadable and is no call.
 
 from collections import namedtuple
 
+from colour import Colour
 from ledger import Ledger, Preview, Refused, Trial
 
-READING_BITS, ENTRY_BITS, LENGTH_BITS = 16, 32, 64  # an amount, light or spacing is as an entry
+READING_BITS, LENGTH_BITS = 16, 64
+ENTRY_BITS = 32  # also of an amount, a light, a spacing and an inspection table's number
 
 # result is what the ledger returned: None, a Colour, a Trial, a Preview or the tallies.
 Step = namedtuple("Step", "number line answer result")
@@ -59,6 +63,11 @@ def so_many(count, words):
     return [number(word, ENTRY_BITS) for word in words]
 
 
+def at_table(words):
+    """The inspection table's number and the spectrum of a trial or preview."""
+    return *so_many(1, words[:1]), whole_table(words[1:], READING_BITS)
+
+
 def four_tables(words):
     tables = []
     for _ in range(4):
@@ -81,16 +90,16 @@ def call(ledger, line):
     if name == b"tolerance" and words[:1] in ([b"lab"], [b"luv"]):
         return ledger.enter_tolerance(words[0].decode(), *so_many(1, words[1:]))
     if name == b"trial":
-        return ledger.trial(whole_table(words, READING_BITS))
+        return ledger.trial(*at_table(words))
     if name == b"preview":
-        return ledger.preview(whole_table(words, READING_BITS))
+        return ledger.preview(*at_table(words))
     if name == b"report" and not words:
         return ledger.report()
     raise Unreadable
 
 
-def numbers(colour):
-    return " ".join("none" if value is None else str(value) for value in colour)
+def numbers(values):
+    return " ".join("none" if value is None else str(value) for value in values)
 
 
 def answer_text(result):
@@ -98,9 +107,9 @@ def answer_text(result):
         return "ok"
     if isinstance(result, (Trial, Preview)):
         return f"{result.verdict} {result.difference} {numbers(result.colour)}"
-    if len(result) == 3:
-        return f"tallies {numbers(result)}"
-    return f"colour {numbers(result)}"
+    if isinstance(result, Colour):
+        return f"colour {numbers(result)}"
+    return f"tallies {numbers(result)}"
 
 
 def answer(ledger, line):

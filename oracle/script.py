@@ -3,17 +3,22 @@
 from functools import partial
 
 from colour import colour, difference
+from inspection import (
+    each_tally, each_verdict, no_such_table, old_trials, previews_not_counted, refused_not_counted,
+    reordered,
+)
 from ledger import GUARD, built_in, from_tables
 from lines import (
-    OTHER, REPORT, TOO_LARGE, any_spectrum, changed, few_rows_tables, full_tables, largest_tables,
-    light, millionths_spectrum, millionths_tables, near_spectrum, opening, preview, seen_first,
-    smooth_spectrum, standard, tolerance, trial,
+    NO_SUCH_TABLES, OTHER, REPORT, TOO_LARGE, any_spectrum, by_turns, changed, few_rows_tables,
+    full_tables, largest_tables, light, millionths_spectrum, millionths_tables, near_spectrum,
+    opening, preview, seen_at, seen_by_turns, seen_nowhere, smooth_spectrum, standard, tolerance,
+    trial,
 )
 from published import (
     EQUAL_ENERGY_TABLES, THREE_ROWS, dark_between_tables, filled, flat, ratio_spectrum, three_rows,
 )
 from spacings import (
-    changes, every_length, left_in_force, old_forms, refused_openings, unknown_spacings,
+    changes, every_length, left_in_force, old_openings, refused_openings, unknown_spacings,
 )
 from tables import LENGTHS, LIGHTS, light_tables
 from unreadable import unreadable
@@ -33,8 +38,8 @@ def guard_lines(under, one, other):
     said = []
     for space in ("lab", "luv"):
         E = difference(space, colour(one, under), colour(other, under))
-        for amount in guard_amounts(space, E):
-            said += [tolerance(space, amount), *seen_first(other)]
+        for place, amount in enumerate(guard_amounts(space, E)):
+            said += [tolerance(space, amount), *seen_at(by_turns(place), other)]
     return said
 
 
@@ -42,11 +47,12 @@ def nothing_opened():
     """And nothing is, after openings that are refused."""
     shades = flat(1_250), flat(1_250, 10), SHORT_AND_BRIGHT
     return [
-        REPORT, b"", *map(standard, shades), *seen_first(*shades), tolerance("lab", 1_000_001),
-        tolerance("luv", TOO_LARGE),
+        REPORT, b"", *map(standard, shades), *seen_by_turns(*shades),
+        *seen_nowhere(*shades), *seen_nowhere([], numbers=NO_SUCH_TABLES),
+        tolerance("lab", 1_000_001), tolerance("luv", TOO_LARGE),
         *(light(number) for number in (0, 3, 2**32 - 1, 2**32, 2**32 + 1, 2**64 + 1, TOO_LARGE)),
-        *refused_openings(5), *refused_openings(10), *map(standard, shades), *seen_first(*shades),
-        REPORT,
+        *refused_openings(5), *refused_openings(10), *map(standard, shades),
+        *seen_by_turns(*shades), *seen_nowhere([]), REPORT,
     ]
 
 
@@ -90,7 +96,7 @@ def edge_tables(chance, spacing):
     """Tables at their limits, accepted; each is used once."""
     good, said = three_rows(spacing), []
     part, level = partial(filled, spacing=spacing), partial(flat, spacing=spacing)
-    for tables in (
+    for place, tables in enumerate((
         changed(good, 1, part(10)),
         changed(good, 3, part(0, 0, 10)),
         (good[0], part(1_000_000), part(0, 100_000), part(0, 0, 1_000_000)),
@@ -99,39 +105,41 @@ def edge_tables(chance, spacing):
         few_rows_tables(chance, spacing),
         full_tables(chance, spacing),
         [table[::-1] for table in good],
-    ):
+    )):
         said += [opening(tables, spacing), standard(level(20_000))]
-        said += [trial(part(20_000, 0, 20_000)), standard(any_spectrum(chance, spacing)), REPORT]
+        said += [trial(by_turns(place), part(20_000, 0, 20_000))]
+        said += [standard(any_spectrum(chance, spacing)), REPORT]
     return said
 
 
 def no_tolerance():
     """At 10 nm, as long as none was ever set."""
     shade = flat(1_250, 10)
-    return [light(2, 10), *seen_first(flat(20_001)), standard(shade),
-            *seen_first(shade, flat(1_250), SHORT_AND_BRIGHT, flat(20_001, 10))]
+    swatches = shade, flat(1_250), SHORT_AND_BRIGHT, flat(20_001, 10)
+    return [light(2, 10), *seen_at(8, flat(20_001)), *seen_nowhere(shade, flat(20_001)),
+            standard(shade), *seen_by_turns(*swatches), *seen_nowhere(*swatches), REPORT]
 
 
-def order_of_checks(spacing):
+def order_of_checks(spacing, table_number):
     """Each cause of the trial and of its preview in their order, the later ones failing too."""
     level, other = partial(flat, spacing=spacing), OTHER[spacing]
-    last = LENGTHS[spacing] - 1
+    last, seen = LENGTHS[spacing] - 1, partial(seen_at, table_number)
     wrong = SHORT_AND_BRIGHT, flat(20_001, other)
     return [
-        *seen_first(*wrong), light(1, spacing), *seen_first(*wrong),
-        *map(standard, wrong), standard(level(20_001)), *seen_first(*wrong),
+        *seen(*wrong), light(1, spacing), *seen(*wrong), *seen_nowhere(*wrong, level(0)),
+        *map(standard, wrong), standard(level(20_001)), *seen(*wrong),
         standard(changed(level(20_000), last, 20_001)),
         standard(changed(level(0), 0, 65_535)), standard(changed(level(0), 0, 65_536)),
         standard(changed(level(0), last // 2, TOO_LARGE)), standard([]), standard(level(0) * 3),
-        standard(flat(0, other)), *seen_first(level(0)),
-        standard(level(20_000)), *seen_first(*wrong, level(20_000)), REPORT,
-        tolerance("luv", 1_000_001), *seen_first(level(20_000)), tolerance("luv", 1_000_000),
-        *seen_first(*wrong, level(20_001), [], level(1)[1:], level(1) + [1], flat(1, other)),
-        *seen_first(changed(level(1), last, 20_001), level(20_000)),
-        tolerance("lab", 1_000_001), tolerance("lab", TOO_LARGE), *seen_first(level(20_000)),
-        light(3, other), *seen_first(level(20_000)),
+        standard(flat(0, other)), *seen(level(0)),
+        standard(level(20_000)), *seen(*wrong, level(20_000)), REPORT,
+        tolerance("luv", 1_000_001), *seen(level(20_000)), tolerance("luv", 1_000_000),
+        *seen(*wrong, level(20_001), [], level(1)[1:], level(1) + [1], flat(1, other)),
+        *seen(changed(level(1), last, 20_001), level(20_000)), *seen_nowhere(*wrong),
+        tolerance("lab", 1_000_001), tolerance("lab", TOO_LARGE), *seen(level(20_000)),
+        light(3, other), *seen(level(20_000)),
         opening(changed(three_rows(other), 2, flat(0, other)), other),
-        *seen_first(level(20_000)), light(2, spacing), *seen_first(level(20_000), *wrong), REPORT,
+        *seen(level(20_000)), light(2, spacing), *seen(level(20_000), *wrong), REPORT,
     ]
 
 
@@ -140,11 +148,11 @@ def previews_between_trials():
     is judged against the standard, not against the trial before it."""
     one, near, far = flat(5_000), flat(5_005), flat(9_000)
     said = [light(1), standard(one), tolerance("lab", 2_000)]
-    for spectrum in (near, far, one):
-        said += [preview(near), preview(far), preview(one), REPORT]
-        said += [trial(spectrum), REPORT, preview(near), preview(far), preview(one), REPORT]
-    said += [standard(far), *seen_first(one, far), tolerance("luv", 0), *seen_first(far), REPORT]
-    return said + [light(2), preview(far), REPORT]
+    for table_number, spectrum in ((2, near), (8, far), (5, one)):
+        looks = [preview(2, near), preview(5, far), preview(table_number, one), REPORT]
+        said += [*looks, trial(table_number, spectrum), REPORT, *looks]
+    said += [standard(far), *seen_at(2, one, far), tolerance("luv", 0), *seen_at(8, far), REPORT]
+    return said + [light(2), preview(8, far), REPORT]
 
 
 def marked_examples(spacing):
@@ -152,8 +160,8 @@ def marked_examples(spacing):
     part, level = partial(filled, spacing=spacing), partial(flat, spacing=spacing)
     said = [opening(three_rows(spacing), spacing), standard(part(10_000, 1_250, 270)),
             standard(level(1_250))]
-    for amount in (232_012, 232_011, 231_989, 231_988):
-        said += [tolerance("lab", amount), trial(level(270))]
+    for place, amount in enumerate((232_012, 232_011, 231_989, 231_988)):
+        said += [tolerance("lab", amount), trial(by_turns(place + spacing), level(270))]
     tables, at_ratios = millionths_tables(spacing), partial(millionths_spectrum, spacing=spacing)
     said.append(opening(tables, spacing))
     for ratio in (0, 1, 1_000, 8_855, 8_856, 8_857, 125_000, 999_999, 1_000_000, 2_000_000):
@@ -168,7 +176,7 @@ def printed_tables():
     """A ratio for every entry of 002's tables 1 and 2."""
     said = [opening(THREE_ROWS), standard(flat(10_000)), tolerance("lab", 500_000)]
     for thousandths in range(1001):
-        said.append(trial(ratio_spectrum(thousandths)))
+        said.append(trial(by_turns(thousandths), ratio_spectrum(thousandths)))
     return said + [REPORT]
 
 
@@ -189,11 +197,13 @@ def whites():
 def lots(chance):
     """Lots under both lights at both spacings, with either or both changed between them."""
     said = [light("0001", "005")]
-    for number, spacing in ((1, 5), (2, 5), (2, 10), (1, 10), (1, 5), (2, 10), (2, 5), (1, 10)):
+    for place, (number, spacing) in enumerate((
+        (1, 5), (2, 5), (2, 10), (1, 10), (1, 5), (2, 10), (2, 5), (1, 10),
+    )):
         under = built_in(number, spacing)
         one = smooth_spectrum(chance, 500, 9_500, spacing)
         other = near_spectrum(chance, one)
-        said += [light(number, spacing), *seen_first(other), standard(one)]
+        said += [light(number, spacing), *seen_at(by_turns(place), other), standard(one)]
         said += [*guard_lines(under, one, other), REPORT]
     for spacing in LENGTHS:
         said += black_and_bright(spacing)
@@ -208,9 +218,11 @@ def black_and_bright(spacing):
     said, black, bright, dim = [], *(flat(entry, spacing) for entry in (0, 20_000, 1))
     for one, other in ((black, black), (black, bright), (bright, black), (black, dim)):
         said += [light(2, spacing), standard(one)]
-        for space, amount in (("lab", 0), ("luv", 0), ("lab", 11), ("lab", 12), ("luv", 113),
-                              ("luv", 114), ("lab", 1_000_000), ("luv", 1_000_000)):
-            said += [tolerance(space, amount), trial(other)]
+        for place, (space, amount) in enumerate((
+            ("lab", 0), ("luv", 0), ("lab", 11), ("lab", 12), ("luv", 113), ("luv", 114),
+            ("lab", 1_000_000), ("luv", 1_000_000),
+        )):
+            said += [tolerance(space, amount), trial(by_turns(place), other)]
         said.append(REPORT)
     return said
 
@@ -219,12 +231,14 @@ def script(chance):
     """The whole script; its last line has no line feed."""
     said = [
         *nothing_opened(), *wrong_tables(5), *wrong_tables(10), *unknown_spacings(),
-        standard(flat(1)), *no_tolerance(), *order_of_checks(5), *order_of_checks(10),
-        light(1), standard(flat(1_250)), *wrong_tables(5), trial(flat(1_250)),
+        standard(flat(1)), *no_tolerance(), *order_of_checks(5, 3), *order_of_checks(10, 6),
+        *no_such_table(5), *no_such_table(10), *each_verdict(), *each_tally(),
+        *previews_not_counted(), *refused_not_counted(), *reordered(),
+        light(1), standard(flat(1_250)), *wrong_tables(5), trial(4, flat(1_250)),
         *left_in_force(5), *left_in_force(10), *every_length(5), *every_length(10),
         *changes(chance), *previews_between_trials(),
         *edge_tables(chance, 5), *edge_tables(chance, 10), *marked_examples(5),
         *marked_examples(10), *whites(), *printed_tables(), *lots(chance),
-        *old_forms(), *unreadable(), REPORT,
+        *old_trials(), *old_openings(), *unreadable(), REPORT,
     ]
     return b"\n".join(said)

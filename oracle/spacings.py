@@ -1,8 +1,9 @@
 """The stored script's sections on the spacing: named, unknown, in force, left and changed."""
 
 from lines import (
-    OTHER, REPORT, TOO_LARGE, UNKNOWN_SPACINGS, any_spectrum, changed, counted, full_tables,
-    largest_tables, light, near_spectrum, opening, preview, seen_first, standard, tolerance, trial,
+    OTHER, REPORT, TOO_LARGE, UNKNOWN_SPACINGS, any_spectrum, by_turns, changed, counted,
+    full_tables, largest_tables, light, near_spectrum, opening, preview, seen_at, seen_by_turns,
+    standard, tolerance, trial,
 )
 from published import THREE_ROWS, filled, flat, three_rows
 from tables import LENGTHS, light_tables
@@ -50,9 +51,10 @@ def left_in_force(spacing):
     """A refused opening leaves conditions, spacing and standard as they were."""
     shade, near, wrong = flat(50, spacing), flat(51, spacing), flat(50, OTHER[spacing])
     said = [light(1, spacing), standard(shade), tolerance("lab", 910)]
-    for line in (*refused_openings(OTHER[spacing]), *refused_openings(spacing)):
-        said += [line, trial(near), preview(wrong)]
-    return said + [standard(wrong), *seen_first(shade), standard(near), *seen_first(near), REPORT]
+    refused = *refused_openings(OTHER[spacing]), *refused_openings(spacing)
+    for place, line in enumerate(refused):
+        said += [line, trial(by_turns(place), near), preview(by_turns(place), wrong)]
+    return said + [standard(wrong), *seen_at(7, shade), standard(near), *seen_at(8, near), REPORT]
 
 
 def every_length(spacing):
@@ -60,16 +62,17 @@ def every_length(spacing):
     too bright is no cause while the length is wrong."""
     said = [tolerance("lab", 5_000), light(2, spacing)]
     said += [standard([7] * length) for length in range(84)]
-    for length in (1, 2, 40, 41, 42, 80, 81, 82, 83, 122, 123, 162, 163):
-        said += seen_first([7] * length, changed([7] * length, length - 1, 20_001))
-    return said + [*seen_first([]), REPORT]
+    for place, length in enumerate((1, 2, 40, 41, 42, 80, 81, 82, 83, 122, 123, 162, 163)):
+        wrong = changed([7] * length, length - 1, 20_001)
+        said += seen_at(by_turns(place), [7] * length, wrong)
+    return said + [*seen_at(4, []), REPORT]
 
 
 def changes(chance):
     """The light, the spacing or both change between lots. Each time the standard is gone, and a
     spectrum of the other spacing is short, before a standard is set and after."""
     said = [tolerance("lab", 20_000)]
-    for spacing, line in (
+    for place, (spacing, line) in enumerate((
         (5, light(1, 5)), (10, light(1, 10)), (10, light(2, 10)), (5, light(2, 5)),
         (10, light(1, 10)), (5, light(2, 5)), (5, light(1, "0005")), (10, light(1, "010")),
         (10, light(1, 10)), (5, opening(full_tables(chance, 5))),
@@ -77,11 +80,12 @@ def changes(chance):
         (5, opening(largest_tables(5))), (10, opening(largest_tables(10), 10)),
         (5, opening(three_rows(5))), (10, opening(three_rows(10), "00010")),
         (10, opening(light_tables(1, 10), 10)), (5, opening(light_tables(1, 5))),
-    ):
+    )):
         one, wrong = any_spectrum(chance, spacing), flat(7, OTHER[spacing])
-        near = near_spectrum(chance, one)
-        said += [line, trial(one), preview(wrong), standard(wrong), preview(one), trial(wrong)]
-        said += [standard(one), *seen_first(near, wrong), standard(wrong), trial(one), REPORT]
+        near, at = near_spectrum(chance, one), by_turns(place)
+        said += [line, trial(at, one), preview(at, wrong), standard(wrong), preview(at, one)]
+        said += [trial(at, wrong), standard(one), *seen_by_turns(near, wrong), standard(wrong)]
+        said += [trial(at, one), REPORT]
     return said
 
 
@@ -89,7 +93,7 @@ def old_form(tables):
     return " ".join(["open", *map(counted, tables)]).encode()
 
 
-def old_forms():
+def old_openings():
     """Lines as they were before an opening named its spacing: no calls, but where the numbers
     happen to come out."""
     fits_81 = (changed(flat(0), 0, 323), flat(0), flat(0), flat(0))

@@ -3,9 +3,31 @@
 from lines import REPORT, TOO_LARGE, counted, opening
 from published import THREE_ROWS, flat
 
+ZEROS, ONE_SHORT = counted(flat(0)), counted(flat(0))[:-2]  # with their number
+
+
+def no_trials(word):
+    """Lines that begin with the word of a trial or preview and are none."""
+    return [f"{word}{rest}".encode("latin-1") for rest in (
+        "", " ", " 1", " 1 ", " 1 x", " 1 1", " 1 1 ", " 1 2 5", " 1 2 5 5 5", " 1 1 -5", " 1 81",
+        " 8 0 ", " 8 0 0", "  8 0", " 8  0", " 8\t0", " 8 0\r", " 8, 0", " -8 0", " +8 0",
+        " 8.0 0", " 0x8 0", " 8_0 0", " eight 0", " x 0", " \xd9\xa1 0", " \xff 0", " table 8 0",
+        " lab 8 0", " 8 lab 0", "8 0", "s 8 0", " trial 8 0", f" 8 {2**32 + 81} {ZEROS[3:]}",
+        f" 8 {2**64 + 81} {ZEROS[3:]}", f" 8 {TOO_LARGE} 0", f" {TOO_LARGE}", f" {ZEROS} 8",
+        f" 8 {ONE_SHORT}", f" 8 {ZEROS} 0", f" 8 {ZEROS} ", f" 8 {ZEROS}\r", f" 8 8 {ZEROS}",
+        f" 8{ZEROS}", f"8 {ZEROS}", f" 8 {ZEROS[:-1]}x", f" 8 {ZEROS[:-2]}  0",
+    )]
+
+
+def odd_trials(word):
+    """Odd lines that are a trial or preview."""
+    return [f"{word}{rest}".encode() for rest in (
+        " 0 0", " 00 000", " 1 0", " 008 000", " 3 1 7", " 81 0", f" {'0' * 40}5 0",
+        f" {'0' * 40} 0", f" {TOO_LARGE} 0", f" 0007 {ZEROS}", f" 7 000{ZEROS}{'0' * 40}",
+    )]
+
 
 def unreadable():
-    zeros, one_short = counted(flat(0)), counted(flat(0))[:-2]
     return [
         b"", b" ", b"  ", b"\t", b"\r", b"\0", b"report ", b" report", b"report\r", b"report\0",
         b"reports", b"repor", b"Report", b"REPORT", b"report 1", b"report report", b"", b"",
@@ -23,34 +45,31 @@ def unreadable():
         b"standard", b"standard ", b"standard 0 ", b"standard  0", b"standard x", b"standard 1",
         b"standard 2 5", b"standard 1 5 5", b"standard 81", b"standard 18446744073709551615",
         b"standard 18446744073709551616 1", f"standard {TOO_LARGE} 1".encode(),
-        f"standard {2**64 + 81} {zeros[3:]}".encode(), f"trial {2**32 + 81} {zeros[3:]}".encode(),
+        f"standard {2**64 + 81} {ZEROS[3:]}".encode(),
+        f"standard {2**32 + 81} {ZEROS[3:]}".encode(),
         b"standard -1", b"standard 1 -5", b"standard 1 x",
-        f"standard {one_short}".encode(), f"standard {zeros} 0".encode(),
-        f"standard 5 {zeros}".encode(), f"standard 10 {counted(flat(0, 10))}".encode(),
-        f"standard {zeros} ".encode(), f"standard {zeros}\r".encode(),
-        f"standard  {zeros}".encode(),
-        f"standard {zeros[:-1]}x".encode(), f"standard {zeros[:-2]}  0".encode(),
-        f"trial {one_short}".encode(), f"trial {zeros} 0".encode(), f"trial {zeros} ".encode(),
-        f"trial{zeros}".encode(), f"trials {zeros}".encode(), b"trial", b"trial 0 0",
-        b"preview", b"preview ", b"preview 0 ", b"preview  0", b"preview 0 0", b"preview x",
-        b"preview 1", b"preview 1 -5", b"Preview 0", b"previews 0", b"previe 0", b" preview 0",
-        b"preview trial 0", f"preview {one_short}".encode(), f"preview {zeros} 0".encode(),
-        f"preview{zeros}".encode(), f"preview {zeros}\r".encode(),
+        f"standard {ONE_SHORT}".encode(), f"standard {ZEROS} 0".encode(),
+        f"standard 5 {ZEROS}".encode(), f"standard 10 {counted(flat(0, 10))}".encode(),
+        f"standard {ZEROS} ".encode(), f"standard {ZEROS}\r".encode(),
+        f"standard  {ZEROS}".encode(),
+        f"standard {ZEROS[:-1]}x".encode(), f"standard {ZEROS[:-2]}  0".encode(),
+        *no_trials("trial"), *no_trials("preview"), b"Trial 8 0", b"tria 8 0", b" trial 8 0",
+        b"Preview 8 0", b"previe 8 0", b" preview 8 0", b"8 trial 0", b"standard 8 0",
         b"open", b"open ", b"open 5", b"open 5 0", b"open 5 0 0 0", b"open 5 0 0 0 ",
         b"open 5 0 0 0 0 0", b"open 5 0 0 0 0 ", b"open  5 0 0 0 0", b"open 5  0 0 0 0",
         b"open five 0 0 0 0", b"open -5 0 0 0 0", b"open 5, 0 0 0 0", b"open 0 0 0 0",
-        f"open 5 {zeros}".encode(), f"open 5 {zeros} {zeros} {zeros}".encode(),
-        f"open 5 {zeros} {zeros} {zeros} {one_short}".encode(),
-        f"open 5 {zeros} {zeros} {zeros} {zeros} 1".encode(),
-        f"open 5 {zeros} {zeros}  {zeros} {zeros}".encode(),
-        f"open 5 {zeros} {one_short} {zeros} {zeros}".encode(), opening(THREE_ROWS) + b"x",
-        f"open {zeros} {zeros} {zeros} {zeros} 5".encode(),
+        f"open 5 {ZEROS}".encode(), f"open 5 {ZEROS} {ZEROS} {ZEROS}".encode(),
+        f"open 5 {ZEROS} {ZEROS} {ZEROS} {ONE_SHORT}".encode(),
+        f"open 5 {ZEROS} {ZEROS} {ZEROS} {ZEROS} 1".encode(),
+        f"open 5 {ZEROS} {ZEROS}  {ZEROS} {ZEROS}".encode(),
+        f"open 5 {ZEROS} {ONE_SHORT} {ZEROS} {ZEROS}".encode(), opening(THREE_ROWS) + b"x",
+        f"open {ZEROS} {ZEROS} {ZEROS} {ZEROS} 5".encode(),
         bytes(byte for byte in range(256) if byte != 10), b"\xef\xbb\xbfreport", b"#",
         # and these are calls
         b"light 1 2", b"light 0 0", b"light 00 0000",
         b"open 5 0 0 0 0", b"open 005 00 0 000 0", b"open 0 0 0 0 0", b"open 10 0 0 0 0",
-        b"standard 0", b"trial 000", b"trial 1 7",
-        b"preview 000", b"preview 1 7", f"preview {zeros}".encode(),
-        f"standard 00081 {zeros[3:]}".encode(), f"trial {zeros}{'0' * 40}".encode(),
-        b"tolerance lab 000000000000000000000000000007", f"trial {zeros}".encode(), REPORT, b"",
+        b"standard 0", *odd_trials("trial"), *odd_trials("preview"),
+        f"standard 00081 {ZEROS[3:]}".encode(), *odd_trials("trial"),
+        b"tolerance lab 000000000000000000000000000007", *odd_trials("preview"),
+        *odd_trials("trial"), REPORT, b"",
     ]

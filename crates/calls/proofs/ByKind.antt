@@ -54,15 +54,15 @@ module _ {s : Session} {r : Served} where
     unfolding callOfKind
     by-luv e p m = of-kind 5 e (ap (set-tolerance Cieluv) p) m
 
-    pub by-trial : {readings : List ℕ} → kind ≡ 6 → readings ≡ partAt spectra words 1 → Meets s (trial readings) r
-        → Meets s (callOf words tables spectra) r
+    pub by-trial : {table : ℕ} {readings : List ℕ} → kind ≡ 6 → table ≡ wordAt words 3 → readings ≡ partAt spectra words 1
+        → Meets s (trial table readings) r → Meets s (callOf words tables spectra) r
     unfolding callOfKind
-    by-trial e p m = of-kind 6 e (ap trial p) m
+    by-trial e p q m = of-kind 6 e (λ j. trial (p j) (q j)) m
 
-    pub by-preview : {readings : List ℕ} → kind ≡ 7 → readings ≡ partAt spectra words 1 → Meets s (look (preview readings)) r
-        → Meets s (callOf words tables spectra) r
+    pub by-preview : {table : ℕ} {readings : List ℕ} → kind ≡ 7 → table ≡ wordAt words 3 → readings ≡ partAt spectra words 1
+        → Meets s (look (preview table readings)) r → Meets s (callOf words tables spectra) r
     unfolding callOfKind
-    by-preview e p m = of-kind 7 e (ap (λ (readings : List ℕ). look (preview readings)) p) m
+    by-preview e p q m = of-kind 7 e (λ j. look (preview (p j) (q j))) m
 
     pub by-report : (kind ≡ 1 → ⊥) → (kind ≡ 2 → ⊥) → (kind ≡ 3 → ⊥) → (kind ≡ 4 → ⊥) → (kind ≡ 5 → ⊥) → (kind ≡ 6 → ⊥) → (kind ≡ 7 → ⊥)
         → Meets s report r → Meets s (callOf words tables spectra) r

@@ -20,11 +20,10 @@ use Rattle.looks.specs.declared.Seen.the-variants.{Previewed}
 use Rattle.looks.specs.Look.{previewed}
 use Rattle.looks.specs.Looked.{seenAnswer}
 use Rattle.session.specs.declared.Answer.{Answer}
-use Rattle.session.specs.declared.Answer.the-variants.{Accepted, Coloured, Tried, Counted, Refused}
-use Rattle.session.specs.declared.ReportAnswer.{ReportAnswer}
+use Rattle.session.specs.declared.Answer.the-variants.{Accepted, Coloured, Tried, Refused}
 use Rattle.session.specs.Outcome.{Outcome, accepted, coloured, tried, counted, seen, refused}
 use Rattle.session.specs.Served.{outcomeOf}
-use Rattle.calls.specs.Records.{answerWords, chromaticityWords, colourWords, spaceWord, verdictWord, trialWords, padded, refusedRecord, answerRecord}
+use Rattle.calls.specs.Records.{answerWords, chromaticityWords, colourWords, spaceWord, verdictWord, trialWords, padded, refusedRecord, setWords, answerRecord}
 
 -- how long an answer is
 length-padded : (words : List ℕ) → length (padded words) ≡ answerWords
@@ -37,7 +36,7 @@ unfolding answerRecord
 length-answer accepted = refl
 length-answer (coloured colour) = length-padded (1 ∷ colourWords colour)
 length-answer (tried t) = length-padded (2 ∷ trialWords t)
-length-answer (counted r) = refl
+length-answer (counted r) = length-padded (3 ∷ setWords (r .sets))
 length-answer (seen (causes.accepted (previewed t))) = length-padded (5 ∷ trialWords t)
 length-answer (seen (causes.refused cause)) = refl
 length-answer (refused cause) = refl
@@ -72,12 +71,12 @@ pub trial-laid : (kind : ℕ) (t : TrialAnswer) {a b v : ℕ} {r : List ℕ}
     → r ≡ padded (kind ∷ (colourWords (t .colour) ++ (a ∷ b ∷ v ∷ []))) → r ≡ padded (kind ∷ trialWords (trialOutcome t))
 trial-laid kind t p u k q = q ∙ λ i. padded (kind ∷ (colourWords (t .colour) ++ (p i ∷ u i ∷ k i ∷ [])))
 
-pub refused-laid : {n cause : ℕ} {r : List ℕ} → n ≡ cause → r ≡ padded (4 ∷ n ∷ 0 ∷ 0 ∷ []) → r ≡ refusedRecord cause
+pub refused-laid : {n cause : ℕ} {r : List ℕ} → n ≡ cause → r ≡ padded (4 ∷ n ∷ []) → r ≡ refusedRecord cause
 refused-laid k q = q ∙ ap refusedRecord k
 
 -- the words that the code makes of each answer
 module _ {answer : Answer} {r : List ℕ} where
-  pub laid-accepted : answer ≡ Accepted → r ≡ padded (0 ∷ 0 ∷ 0 ∷ 0 ∷ []) → r ≡ answerRecord (outcomeOf answer)
+  pub laid-accepted : answer ≡ Accepted → r ≡ padded (0 ∷ 0 ∷ []) → r ≡ answerRecord (outcomeOf answer)
   unfolding answerRecord
   laid-accepted e q = rw e q
 
@@ -89,11 +88,6 @@ module _ {answer : Answer} {r : List ℕ} where
   pub laid-tried : {t : TrialAnswer} → answer ≡ Tried t → r ≡ padded (2 ∷ trialWords (trialOutcome t)) → r ≡ answerRecord (outcomeOf answer)
   unfolding answerRecord
   laid-tried e q = rw e q
-
-  pub laid-counted : {t : ReportAnswer} → answer ≡ Counted t → r ≡ padded (3 ∷ t .tallies .passed ∷ t .tallies .failed ∷ t .tallies .line ∷ [])
-      → r ≡ answerRecord (outcomeOf answer)
-  unfolding answerRecord
-  laid-counted e q = rw e q
 
   pub laid-refused : {cause : Cause} → answer ≡ Refused cause → r ≡ refusedRecord (causeNumber cause) → r ≡ answerRecord (outcomeOf answer)
   unfolding answerRecord

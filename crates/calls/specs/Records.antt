@@ -7,8 +7,8 @@
 --   3  standard: its readings, as a part of the pool of spectra (words 1 2)
 --   4  tolerance in CIELAB: the amount (word 1)
 --   5  tolerance in CIELUV: the amount (word 1)
---   6  trial: its readings, as a part of the pool of spectra (words 1 2)
---   7  preview: its readings, as a part of the pool of spectra (words 1 2)
+--   6  trial: its readings, as a part of the pool of spectra (words 1 2), and its inspection table (word 3)
+--   7  preview: as a trial
 --   any other number: report
 -- Words that a call does not name may hold anything. A part that runs past the end of its pool is a table of length 0. A record that ends early
 -- counts as one that goes on with zeros.
@@ -17,7 +17,7 @@
 --   0  accepted
 --   1  a colour: words 1 to 13
 --   2  a trial: its colour (1 to 13), the space of E (14: 0 is CIELAB, 1 is CIELUV), E (15), the verdict (16: 0 is pass, 1 is fail, 2 is on the line)
---   3  tallies: pass, fail, on the line (1 to 3)
+--   3  tallies: pass, fail, on the line, of inspection table 1 (1 to 3), of 2 (4 to 6), and so on to 8 (22 to 24)
 --   4  refused: the cause (1)
 --   5  a preview: what a trial would answer, laid out as that is (1 to 16)
 -- A colour is X, Y, Z, whether it has a chromaticity (1 or 0), x, y (0 where it has none), L, a, b, u, v, CIELAB chroma, CIELUV chroma; a, b, u
@@ -41,7 +41,7 @@ use Rattle.cie.specs.Sums.{Tables, tablesOf}
 use Rattle.trials.specs.Outcome.{TrialOutcome}
 use Rattle.looks.specs.Look.{preview, previewed}
 use Rattle.session.specs.Call.{Call, open-tables, open-light, set-standard, set-tolerance, trial, report, look}
-use Rattle.session.specs.Outcome.{Outcome, accepted, coloured, tried, counted, seen, refused}
+use Rattle.session.specs.Outcome.{VerdictCounts, Outcome, accepted, coloured, tried, counted, seen, refused}
 
 abbrev pub callWords : ℕ
 callWords = 10
@@ -79,8 +79,8 @@ callOfKind kind words tables spectra =
     (cond (eqb kind 3) (set-standard (partAt spectra words 1))
     (cond (eqb kind 4) (set-tolerance Cielab (wordAt words 1))
     (cond (eqb kind 5) (set-tolerance Cieluv (wordAt words 1))
-    (cond (eqb kind 6) (trial (partAt spectra words 1))
-    (cond (eqb kind 7) (look (preview (partAt spectra words 1)))
+    (cond (eqb kind 6) (trial (wordAt words 3) (partAt spectra words 1))
+    (cond (eqb kind 7) (look (preview (wordAt words 3) (partAt spectra words 1)))
     report))))))
 
 -- the call of a record
@@ -129,11 +129,16 @@ trialWords t = colourWords (t .colour) ++ (spaceWord (t .e .space) ∷ t .e .uni
 abbrev pub refusedRecord : ℕ → List ℕ
 refusedRecord cause = padded (4 ∷ cause ∷ [])
 
+-- the tallies of some tables, one after the other
+abbrev pub setWords : List VerdictCounts → List ℕ
+setWords [] = []
+setWords (n ∷ sets) = n .passed ∷ n .failed ∷ n .line ∷ setWords sets
+
 unfoldable pub answerRecord : Outcome → List ℕ
 answerRecord accepted = padded (0 ∷ [])
 answerRecord (coloured colour) = padded (1 ∷ colourWords colour)
 answerRecord (tried t) = padded (2 ∷ trialWords t)
-answerRecord (counted r) = padded (3 ∷ r .counts .passed ∷ r .counts .failed ∷ r .counts .line ∷ [])
+answerRecord (counted r) = padded (3 ∷ setWords (r .sets))
 answerRecord (seen (causes.accepted (previewed t))) = padded (5 ∷ trialWords t)
 answerRecord (seen (causes.refused cause)) = refusedRecord cause
 answerRecord (refused cause) = refusedRecord cause

@@ -7,6 +7,7 @@ ghost use lib.Seq.{sets};
 ghost use Rattle.causes.specs.Causes.{causeNumber};
 ghost use Rattle.trials.specs.Tried.{amountOf, trialOutcome};
 ghost use Rattle.looks.specs.Looked.{seenAnswer};
+ghost use Rattle.session.specs.declared.Answer.the-variants.{Counted};
 ghost use Rattle.session.specs.Outcome.{seen};
 ghost use Rattle.session.specs.Served.{outcomeOf};
 ghost use Rattle.calls.specs.Records.{answerWords, chromaticityWords, spaceWord, verdictWord, colourWords, trialWords, padded, refusedRecord, answerRecord};
@@ -17,6 +18,7 @@ use cie::Verdict;
 use looks::Seen;
 use rules::Difference;
 use session::Answer;
+use session::ReportAnswer;
 use trials::TrialAnswer;
 
 pub const ANSWER_WORDS: usize = 32;
@@ -92,22 +94,61 @@ fn trial_words(kind: u32, t: TrialAnswer) -> [u32; 32]
     colour_words(kind, colour, amount_of(e), verdict_word(verdict))
 }
 
-// The words of an answer that has at most three numbers.
-fn short_words(kind: u32, a: u32, b: u32, c: u32) -> [u32; 32]
-    ensures { λ r. ⌜ r ≡ padded (kind ∷ a ∷ b ∷ c ∷ []) ⌝ }
+// The words of a report's answer: the tallies of table 1, of table 2, and so on.
+fn report_words(report: ReportAnswer) -> [u32; 32]
+    ensures { λ r. ⌜ r ≡ answerRecord (outcomeOf (Counted report)) ⌝ }
+{
+    let sets = report.tallies;
+    [
+        3,
+        sets.first.passed,
+        sets.first.failed,
+        sets.first.line,
+        sets.second.passed,
+        sets.second.failed,
+        sets.second.line,
+        sets.third.passed,
+        sets.third.failed,
+        sets.third.line,
+        sets.fourth.passed,
+        sets.fourth.failed,
+        sets.fourth.line,
+        sets.fifth.passed,
+        sets.fifth.failed,
+        sets.fifth.line,
+        sets.sixth.passed,
+        sets.sixth.failed,
+        sets.sixth.line,
+        sets.seventh.passed,
+        sets.seventh.failed,
+        sets.seventh.line,
+        sets.eighth.passed,
+        sets.eighth.failed,
+        sets.eighth.line,
+        0,
+        0,
+        0,
+        0,
+        0,
+        0,
+        0,
+    ]
+}
+
+// The words of an answer that has at most one number.
+fn short_words(kind: u32, a: u32) -> [u32; 32]
+    ensures { λ r. ⌜ r ≡ padded (kind ∷ a ∷ []) ⌝ }
 {
     let mut words = [0u32; 32];
     words[0] = kind;
     words[1] = a;
-    words[2] = b;
-    words[3] = c;
     words
 }
 
 fn refused_words(cause: Cause) -> [u32; 32]
     ensures { λ r. ⌜ r ≡ refusedRecord (causeNumber cause) ⌝ }
 {
-    short_words(4, causes::number(cause), 0, 0)
+    short_words(4, causes::number(cause))
 }
 
 fn seen_words(answer: Seen) -> [u32; 32]
@@ -123,13 +164,10 @@ fn words_of(answer: Answer) -> [u32; 32]
     ensures { λ r. ⌜ r ≡ answerRecord (outcomeOf answer) ⌝ }
 {
     match answer {
-        Answer::Accepted => short_words(0, 0, 0, 0),
+        Answer::Accepted => short_words(0, 0),
         Answer::Coloured(colour) => colour_words(1, colour, Amount(0, 0), 0),
         Answer::Tried(t) => trial_words(2, t),
-        Answer::Counted(r) => {
-            let tallies = r.tallies;
-            short_words(3, tallies.passed, tallies.failed, tallies.line)
-        }
+        Answer::Counted(r) => report_words(r),
         Answer::Seen(seen) => seen_words(seen),
         Answer::Refused(cause) => refused_words(cause),
     }

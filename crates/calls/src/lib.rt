@@ -116,8 +116,8 @@ pub fn call(s: Session, words: &[u32], tables: &[u32], spectra: &[u16]) -> Serve
         STANDARD => s.set_standard(spectrum(spectra, words)),
         TOLERANCE_LAB => s.set_tolerance(Space::Cielab, word(words, 1)),
         TOLERANCE_LUV => s.set_tolerance(Space::Cieluv, word(words, 1)),
-        TRIAL => s.trial(spectrum(spectra, words)),
-        PREVIEW => s.preview(spectrum(spectra, words)),
+        TRIAL => s.trial(word(words, 3), spectrum(spectra, words)),
+        PREVIEW => s.preview(word(words, 3), spectrum(spectra, words)),
         _ => s.report(),
     }
 }

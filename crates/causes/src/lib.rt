@@ -20,6 +20,7 @@ pub enum Cause {
     ShortBuffer,
     NoSuchLight,
     UnknownSpacing,
+    NoSuchTable,
 }
 
 // What checks in an order find: nothing, or the cause of the first that holds.
@@ -50,5 +51,6 @@ pub fn number(cause: Cause) -> u32
         Cause::ShortBuffer => 15,
         Cause::NoSuchLight => 16,
         Cause::UnknownSpacing => 17,
+        Cause::NoSuchTable => 18,
     }
 }

@@ -4,7 +4,7 @@ use mathlib.Core.List.{List, [], _∷_}
 use Prim.Native.Nat.{ℕ}
 use lib.IntN.{ℤ, pos, negsuc}
 use lib.ListN.{replicate}
-use Rattle.wide.specs.Roots.{squareRoot, cubeRoot, greatest, climb, nextBit}
+unfoldable pub use Rattle.wide.specs.Roots.{squareRoot, cubeRoot, greatest, climb, nextBit}
 use Rattle.cie.specs.declared.Chromaticity.{Chromaticity}
 use Rattle.cie.specs.declared.Chromaticity.the-variants.{At}
 use Rattle.cie.specs.declared.Colour.{Colour}

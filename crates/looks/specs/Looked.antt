@@ -14,4 +14,4 @@ seenAnswer (Refused cause) = refusal cause
 
 -- "Its colour, E, verdict or cause equal those of the trial": a preview is worked out as a trial is
 abbrev pub lookedBy : Conditions → Standing → Look → Numbered Sight
-lookedBy c s (preview readings) = mapped previewed (triedBy c s readings)
+lookedBy c s (preview table readings) = mapped previewed (triedBy c s table readings)

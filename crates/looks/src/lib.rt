@@ -15,9 +15,10 @@ pub enum Seen {
     Refused(Cause),
 }
 
-// What a trial of a spectrum would answer.
+// What a trial of a spectrum for a table would answer.
 pub fn preview<'a>(
     standing: Standing,
+    table: u32,
     rows: usize,
     white: WhitePoint,
     readings: &[u16],
@@ -26,9 +27,9 @@ pub fn preview<'a>(
     z: &'a [u64],
 ) -> Seen
     requires { ⌜ ValidStanding (conditionsBy rows (now x) (now y) (now z) white) standing ⌝ }
-    ensures { λ r. ⌜ seenAnswer r ≡ lookedBy (conditionsBy rows (now (x .entry)) (now (y .entry)) (now (z .entry)) white) standing (preview (now (readings .entry))) ⌝ }
+    ensures { λ r. ⌜ seenAnswer r ≡ lookedBy (conditionsBy rows (now (x .entry)) (now (y .entry)) (now (z .entry)) white) standing (preview table (now (readings .entry))) ⌝ }
 {
-    match trials::tried(standing, rows, white, readings, x, y, z) {
+    match trials::tried(standing, table, rows, white, readings, x, y, z) {
         TrialResult::Answered(trial) => Seen::Previewed(trial),
         TrialResult::Refused(cause) => Seen::Refused(cause),
     }

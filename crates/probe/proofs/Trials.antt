@@ -11,7 +11,7 @@ use Rattle.session.specs.Call.{Call, open-light, set-standard, set-tolerance, t
 use Rattle.session.specs.Outcome.{Outcome}
 use Rattle.session.specs.Served.{Reply, served, freshSession}
 use Rattle.session.specs.Meets.{Meets}
-use Rattle.probe.specs.Probe.{after, sessionFor, afterTrials, passedIn, passCount}
+use Rattle.probe.specs.Probe.{after, sessionFor, onlyTable, afterTrials, passedIn, passCount}
 
 pub left : {s : Session} {c : Call} {r : Served} → Meets s c r → r .session ≡ after s c
 unfolding after
@@ -26,7 +26,7 @@ ready light standard amount e e₁ e₂ e₃ =
     (e₂ ∙ ap (λ (s : Session). after s (set-standard standard)) (e₁ ∙ ap (λ (s : Session). after s (open-light light fineSpacing)) e))
 
 -- one trial, and then the others
-pub turn : (s : Session) (readings : List ℕ) (n : ℕ) {t : Session} → 0 < n → t ≡ after s (trial readings)
+pub turn : (s : Session) (readings : List ℕ) (n : ℕ) {t : Session} → 0 < n → t ≡ after s (trial onlyTable readings)
     → afterTrials t readings (n - 1) ≡ afterTrials s readings n
 unfolding afterTrials
 turn s readings zero h e = let z : _≡_ {A = ℕ} 0 1 = omega arith in cc

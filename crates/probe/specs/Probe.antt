@@ -5,9 +5,11 @@ use Rattle.causes.specs.Causes as causes
 use Rattle.causes.specs.Causes.{Numbered}
 use Rattle.cie.specs.declared.Space.the-variants.{Cielab}
 use Rattle.cie.specs.Spacing.{fineSpacing}
+use Rattle.tallies.specs.ByTable.{atTable}
 use Rattle.session.specs.declared.Session.{Session}
 use Rattle.session.specs.Call.{Call, open-light, set-standard, set-tolerance, trial, report}
 use Rattle.session.specs.Outcome.{Outcome, accepted, coloured, tried, counted, seen, refused}
+use Rattle.session.specs.Ledger.{noCounts}
 use Rattle.session.specs.Served.{served, freshSession}
 
 -- the count, or 2^32 and the cause's number
@@ -28,17 +30,21 @@ after s c = served s c .session
 unfoldable pub sessionFor : ℕ → List ℕ → ℕ → Session
 sessionFor light standard amount = after (after (after freshSession (open-light light fineSpacing)) (set-standard standard)) (set-tolerance Cielab amount)
 
+-- the inspection table that a run of trials names
+abbrev pub onlyTable : ℕ
+onlyTable = 1
+
 -- the session after a number of trials of one spectrum
 unfoldable pub afterTrials : Session → List ℕ → ℕ → Session
 afterTrials s readings zero = s
-afterTrials s readings (suc n) = afterTrials (after s (trial readings)) readings n
+afterTrials s readings (suc n) = afterTrials (after s (trial onlyTable readings)) readings n
 
--- the passes that a report counts
+-- the passes that a report counts for that table
 abbrev pub passedIn : Outcome → ℕ
 passedIn accepted = 0
 passedIn (coloured colour) = 0
 passedIn (tried t) = 0
-passedIn (counted r) = r .counts .passed
+passedIn (counted r) = atTable noCounts (r .sets) onlyTable .passed
 passedIn (seen answer) = 0
 passedIn (refused cause) = 0
 

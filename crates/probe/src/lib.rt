@@ -73,6 +73,9 @@ fn session_for(light: u32, standard: &[u16], amount: u32) -> Session
     ready.session
 }
 
+// The inspection table that a run of trials names.
+const ONLY_TABLE: u32 = 1;
+
 // The session after some trials of one spectrum.
 fn after_trials(session: Session, readings: &[u16], count: u32) -> Session
     requires { ⌜ Valid session ⌝ }
@@ -81,14 +84,14 @@ fn after_trials(session: Session, readings: &[u16], count: u32) -> Session
     let mut current = session;
     let mut left = count;
     while left > 0 {
-        let tried = current.trial(readings);
+        let tried = current.trial(ONLY_TABLE, readings);
         current = tried.session;
         left -= 1;
     }
     current
 }
 
-// The passes that a report counts.
+// The passes that a report counts for that table.
 fn passed_in(answer: Answer) -> u32
     ensures { λ r. ⌜ r ≡ passedIn (outcomeOf answer) ⌝ }
 {
@@ -96,7 +99,7 @@ fn passed_in(answer: Answer) -> u32
         Answer::Accepted => 0,
         Answer::Coloured(_) => 0,
         Answer::Tried(_) => 0,
-        Answer::Counted(r) => r.tallies.passed,
+        Answer::Counted(r) => r.tallies.first.passed,
         Answer::Seen(_) => 0,
         Answer::Refused(_) => 0,
     }

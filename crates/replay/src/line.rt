@@ -20,7 +20,8 @@ pub enum Stage {
 
 pub struct Line {
     pub stage: Stage,
-    // the record of its call: a light, a spacing, an amount, or where each table starts and how many entries it has, counted up to STRETCH
+    // the record of its call: a light, a spacing, an amount, an inspection table, and where each table starts and how many
+    // entries it has, counted up to STRETCH
     pub record: [u32; 10],
     // the words of the record that its numbers go to: the next, and the one after the last
     next: usize,
@@ -86,10 +87,10 @@ impl Line {
 
     fn of_command(token: Token) -> Line {
         if token.is(b"trial") {
-            return Line::started(calls::TRIAL, Stage::Length, 1);
+            return Line::started(calls::TRIAL, Stage::Number, 1).with_words(3, 4);
         }
         if token.is(b"preview") {
-            return Line::started(calls::PREVIEW, Stage::Length, 1);
+            return Line::started(calls::PREVIEW, Stage::Number, 1).with_words(3, 4);
         }
         if token.is(b"standard") {
             return Line::started(calls::STANDARD, Stage::Length, 1);

@@ -10,6 +10,8 @@ use libc::STDOUT_FILENO;
 use looks::Seen;
 use rules::Difference;
 use session::Answer;
+use session::ReportAnswer;
+use tallies::Tallies;
 use trials::TrialAnswer;
 
 // A space and a number.
@@ -127,10 +129,47 @@ fn put_seen(out: &mut [u8], seen: Seen) -> usize
     }
 }
 
+fn put_tallies(out: &mut [u8], at: usize, t: Tallies) -> usize
+    requires { ⌜ at + 33 ≤ length (now out) ⌝ }
+    ensures { λ r. ⌜ r ≤ at + 33 ⌝ }
+{
+    put_three(out, at, t.passed, t.failed, t.line)
+}
+
+// The tallies of four tables.
+fn put_four(out: &mut [u8], at: usize, a: Tallies, b: Tallies, c: Tallies, d: Tallies) -> usize
+    requires { ⌜ at + 132 ≤ length (now out) ⌝ }
+    ensures { λ r. ⌜ r ≤ at + 132 ⌝ }
+{
+    let first = put_tallies(out, at, a);
+    let second = put_tallies(out, first, b);
+    let third = put_tallies(out, second, c);
+    put_tallies(out, third, d)
+}
+
+// The tallies of each table, in the order of their numbers.
+fn put_report(out: &mut [u8], report: ReportAnswer) -> usize
+    requires { ⌜ 271 ≤ length (now out) ⌝ }
+    ensures { λ r. ⌜ r ≤ 271 ⌝ }
+{
+    let sets = report.tallies;
+    let first = sets.first;
+    let second = sets.second;
+    let third = sets.third;
+    let fourth = sets.fourth;
+    let fifth = sets.fifth;
+    let sixth = sets.sixth;
+    let seventh = sets.seventh;
+    let eighth = sets.eighth;
+    let start = text::put(out, 0, b"tallies");
+    let half = put_four(out, start, first, second, third, fourth);
+    put_four(out, half, fifth, sixth, seventh, eighth)
+}
+
 // The answer without its line end.
 fn put_answer(out: &mut [u8], answer: Answer) -> usize
-    requires { ⌜ 151 ≤ length (now out) ⌝ }
-    ensures { λ r. ⌜ r ≤ 151 ⌝ }
+    requires { ⌜ 271 ≤ length (now out) ⌝ }
+    ensures { λ r. ⌜ r ≤ 271 ⌝ }
 {
     match answer {
         Answer::Accepted => text::put(out, 0, b"ok"),
@@ -139,18 +178,14 @@ fn put_answer(out: &mut [u8], answer: Answer) -> usize
             put_colour(out, after, colour)
         }
         Answer::Tried(t) => put_tried(out, t),
-        Answer::Counted(r) => {
-            let t = r.tallies;
-            let after = text::put(out, 0, b"tallies");
-            put_three(out, after, t.passed, t.failed, t.line)
-        }
+        Answer::Counted(r) => put_report(out, r),
         Answer::Seen(seen) => put_seen(out, seen),
         Answer::Refused(cause) => put_refused(out, cause),
     }
 }
 
 // The whole line of an answer.
-fn put_line(out: &mut [u8; 256], answer: Answer) -> usize
+fn put_line(out: &mut [u8; 272], answer: Answer) -> usize
     ensures { λ r. ⌜ Counts r (now (out .exit)) ⌝ }
 {
     let at = put_answer(out, answer);
@@ -158,7 +193,7 @@ fn put_line(out: &mut [u8; 256], answer: Answer) -> usize
 }
 
 pub fn print(answer: Answer) {
-    let mut out = [0u8; 256];
+    let mut out = [0u8; 272];
     let n = put_line(&mut out, answer);
     io::write_all(STDOUT_FILENO, &out[..n]);
 }

@@ -1,12 +1,10 @@
--- What the program decides by, in its own types: the tolerance, the standard, the judgement of a trial, the tallies. The ledger has none of it.
+-- What the program decides by, in its own types: the tolerance, the standard, the judgement of a trial. The ledger has none of it.
 -- Assumes nothing.
 use mathlib.Core.Bool.{Bool, true, false}
-use Prim.Native.Nat.{ℕ, _+_}
+use Prim.Native.Nat.{ℕ}
 use Rattle.cie.specs.declared.Colour.{Colour}
 use Rattle.cie.specs.declared.Space.{Space}
 use Rattle.cie.specs.declared.Space.the-variants.{Cielab, Cieluv}
-use Rattle.cie.specs.declared.Verdict.{Verdict}
-use Rattle.cie.specs.declared.Verdict.the-variants.{Pass, Fail, OnTheLine}
 use Rattle.cie.specs.Colour.{labDifference, luvDifference}
 use Rattle.cie.specs.Sizes.{Sized}
 use Rattle.cie.specs.Verdict.{margin, verdictOf}
@@ -18,7 +16,6 @@ use Rattle.rules.specs.declared.Difference.{Difference}
 use Rattle.rules.specs.declared.Difference.the-variants as difference
 use Rattle.rules.specs.declared.Judged.{Judged}
 use Rattle.rules.specs.declared.Judged.the-variants.{Without, By}
-use Rattle.rules.specs.declared.Tallies.{Tallies}
 
 -- the amount in the unit of its space
 abbrev pub toleranceOf : Space → ℕ → Tolerance
@@ -56,15 +53,3 @@ judgedBy (tolerance.Luv t) p q = By (difference.Luv (luvDifference p q)) (verdic
 abbrev pub judgedOf : Standard → Tolerance → Colour → Judged
 judgedOf Missing t q = Without
 judgedOf (Of p) t q = judgedBy t p q
-
-abbrev pub noTallies : Tallies
-noTallies = record { passed = 0; failed = 0; line = 0 }
-
-abbrev pub tallySum : Tallies → ℕ
-tallySum t = t .passed + t .failed + t .line
-
--- "Its tally rises by 1."
-abbrev pub talliedBy : Tallies → Verdict → Tallies
-talliedBy t Pass = record { passed = t .passed + 1; failed = t .failed; line = t .line }
-talliedBy t Fail = record { passed = t .passed; failed = t .failed + 1; line = t .line }
-talliedBy t OnTheLine = record { passed = t .passed; failed = t .failed; line = t .line + 1 }

@@ -1,4 +1,4 @@
-// What the calls decide by: the tolerance, what must stand before a trial, the verdict, the tallies.
+// What the calls decide by: the tolerance, what must stand before a trial, the verdict.
 ghost use mathlib.Core.Path.{_≡_};
 ghost use lib.Dec.{ltb};
 ghost use Rattle.rules.specs.Standing.{toleranceLimit};
@@ -35,13 +35,6 @@ pub enum Difference {
 pub enum Judged {
     Without,
     By(Difference, Verdict),
-}
-
-// How many trials were given each verdict.
-pub struct Tallies {
-    pub passed: u32,
-    pub failed: u32,
-    pub line: u32,
 }
 
 // The largest amount of a tolerance.

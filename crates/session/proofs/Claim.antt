@@ -21,9 +21,9 @@ record Carried (before : List Event) (l : Ledger) : Type 0 where
   kept : Kept l
   counts : l .counts ≡ verdictsIn before
 
-trial-told : (l : Ledger) (readings : List ℕ) (a : Numbered TrialOutcome) → Owed l readings a → TrialTold l readings (countedAt l a .outcome)
-trial-told l readings (accepted t) h = h
-trial-told l readings (refused cause) h = tt
+trial-told : (l : Ledger) (table : ℕ) (readings : List ℕ) (a : Numbered TrialOutcome) → Owed l readings a → TrialTold l readings (countedAt l table a .outcome)
+trial-told l table readings (accepted t) h = h
+trial-told l table readings (refused cause) h = tt
 
 abbrev Silent : Entry → Type 0
 Silent q = NoVerdict (q .outcome)
@@ -37,7 +37,7 @@ call-told before l (open-tables t) k = either _ Silent _ _ (λ c. tt) (λ e. tt)
 call-told before l (open-light light spacing) k = either _ Silent _ _ (λ c. tt) (λ e. tt)
 call-told before l (set-standard readings) k = either _ Silent _ _ (λ c. tt) (λ e. standard-silent l (l .conditions) readings)
 call-told before l (set-tolerance space amount) k = either _ Silent _ _ (λ c. tt) (λ e. tt)
-call-told before l (trial readings) k = trial-told l readings (triedAt l readings) (tried-told l readings (k .kept))
+call-told before l (trial table readings) k = trial-told l table readings (triedAt l table readings) (tried-told l table readings (k .kept))
 call-told before l report k = k .counts
 call-told before l (look i) k = look-told l i (k .kept)
 

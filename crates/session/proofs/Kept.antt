@@ -37,9 +37,9 @@ with-standard : (l : Ledger) (t : Held Tables) (readings : List ℕ) → Kept l 
 with-standard l none readings k e = k
 with-standard l (held t) readings k e = record { tables = k .tables; standard = e }
 
-with-counted : (l : Ledger) (a : Numbered TrialOutcome) → Kept l → Kept (countedAt l a .ledger)
-with-counted l (accepted t) k = record { tables = k .tables; standard = k .standard }
-with-counted l (refused cause) k = k
+with-counted : (l : Ledger) (table : ℕ) (a : Numbered TrialOutcome) → Kept l → Kept (countedAt l table a .ledger)
+with-counted l table (accepted t) k = record { tables = k .tables; standard = k .standard }
+with-counted l table (refused cause) k = k
 
 abbrev KeptAfter : Entry → Type 0
 KeptAfter q = Kept (q .ledger)
@@ -52,7 +52,7 @@ kept-next l (open-light light spacing) k =
 kept-next l (set-standard readings) k =
     either _ KeptAfter _ _ (λ c. k) (λ e. with-standard l (l .conditions) readings k (clear-head _ _ _ (clear-tail _ _ _ (clear-tail _ _ _ e))))
 kept-next l (set-tolerance space amount) k = either _ KeptAfter _ _ (λ c. k) (λ e. record { tables = k .tables; standard = k .standard })
-kept-next l (trial readings) k = with-counted l (triedAt l readings) k
+kept-next l (trial table readings) k = with-counted l table (triedAt l table readings) k
 kept-next l report k = k
 kept-next l (look i) k = record { tables = k .tables; standard = k .standard }
 

@@ -8,3 +8,6 @@ pub mod Replies
 pub mod Counts
 pub mod Claim
 pub mod Looks
+pub mod Steps
+pub mod ByTable
+pub mod OrderTells

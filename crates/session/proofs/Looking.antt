@@ -16,12 +16,12 @@ use Rattle.session.proofs.Kept.{Kept}
 use Rattle.session.proofs.Told.{Owed, tried-told}
 
 pub looking : (l : Ledger) (k : Look) → lookedBy (sessionOf l .conditions) (standingOf (sessionOf l)) k ≡ lookedAt l k
-looking l (preview readings) = ap (mapped previewed) (tried-same l readings)
+looking l (preview table readings) = ap (mapped previewed) (tried-same l table readings)
 
-preview-told : (l : Ledger) (readings : List ℕ) (a : Numbered TrialOutcome) → Owed l readings a →
-    LookTold l (preview readings) (seen (mapped previewed a))
-preview-told l readings (accepted t) h = h
-preview-told l readings (refused cause) h = tt
+preview-told : (l : Ledger) (table : ℕ) (readings : List ℕ) (a : Numbered TrialOutcome) → Owed l readings a →
+    LookTold l (preview table readings) (seen (mapped previewed a))
+preview-told l table readings (accepted t) h = h
+preview-told l table readings (refused cause) h = tt
 
 pub look-told : (l : Ledger) (k : Look) → Kept l → LookTold l k (seen (lookedAt l k))
-look-told l (preview readings) k = preview-told l readings (triedAt l readings) (tried-told l readings k)
+look-told l (preview table readings) k = preview-told l table readings (triedAt l table readings) (tried-told l table readings k)

@@ -2,6 +2,7 @@
 -- Assumes nothing.
 use mathlib.Core.Path.{_≡_, refl, ap}
 use mathlib.Core.List.{List, [], _∷_, _++_}
+use Prim.Native.Nat.{ℕ}
 use lib.ListN.{length}
 use Rattle.causes.specs.Causes.{Numbered, accepted, refused, mapped}
 use Rattle.trials.specs.Outcome.{TrialOutcome}
@@ -15,14 +16,14 @@ use Rattle.session.specs.Claim.{outcomesFrom}
 use Rattle.session.specs.Looks.{asPreview, PreviewIsTrial, without, LookLeftOut}
 
 -- whatever the working out found
-shown-alike : (s : Session) (a : Numbered TrialOutcome) → seen (mapped previewed a) ≡ asPreview (countedBy s a .outcome)
-shown-alike s (accepted t) = refl
-shown-alike s (refused cause) = refl
+shown-alike : (s : Session) (table : ℕ) (a : Numbered TrialOutcome) → seen (mapped previewed a) ≡ asPreview (countedBy s table a .outcome)
+shown-alike s table (accepted t) = refl
+shown-alike s table (refused cause) = refl
 
 pub preview-is-trial : PreviewIsTrial
 preview-is-trial =
     record {
-      answer = λ s readings. shown-alike s (triedBy (s .conditions) (standingOf s) readings);
+      answer = λ s table readings. shown-alike s table (triedBy (s .conditions) (standingOf s) table readings);
       unmoved = λ s k. refl;
     }
 

@@ -70,11 +70,11 @@ module _ (s : Session) {q : Standing} (stands : q ≡ standingOf s) where
   valid-told v = subst (ValidStanding (s .conditions)) (sym stands) (v .standing)
 
   -- what a trial found, by the case that it is, and counted
-  pub trial-found : (readings : List ℕ) {found case : TrialResult} → found ≡ case → triedAnswer found ≡ triedBy (s .conditions) q readings →
-      countedBy s (triedAnswer case) ≡ served s (trial readings)
-  trial-found readings told e =
-      ap (λ (r : TrialResult). countedBy s (triedAnswer r)) (sym told)
-      ∙ ap (countedBy s) (e ∙ ap (λ (x : Standing). triedBy (s .conditions) x readings) stands)
+  pub trial-found : (table : ℕ) (readings : List ℕ) {found case : TrialResult} → found ≡ case →
+      triedAnswer found ≡ triedBy (s .conditions) q table readings → countedBy s table (triedAnswer case) ≡ served s (trial table readings)
+  trial-found table readings told e =
+      ap (λ (r : TrialResult). countedBy s table (triedAnswer r)) (sym told)
+      ∙ ap (countedBy s table) (e ∙ ap (λ (x : Standing). triedBy (s .conditions) x table readings) stands)
 
   pub look-seen : (k : Look) {a : Numbered Sight} → a ≡ lookedBy (s .conditions) q k → seenBy s a ≡ served s (look k)
   look-seen k e = ap (seenBy s) (e ∙ ap (λ (x : Standing). lookedBy (s .conditions) x k) stands)

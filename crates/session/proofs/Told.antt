@@ -19,7 +19,7 @@ Owed l readings (accepted t) = VerdictAt l readings (t .verdict)
 Owed l readings (refused cause) = Unit
 
 -- past its checks, the verdict's rule gives it
-worked-out : (t : Held Tables) (s : Held (List ℕ)) (o : Held Amount) (n : VerdictCounts) (readings : List ℕ) →
+worked-out : (t : Held Tables) (s : Held (List ℕ)) (o : Held Amount) (n : List VerdictCounts) (readings : List ℕ) →
     Proper t → Readable s → Readable (held readings) → Owed (ledgerOf t s o n) readings (workedOut t s o readings)
 worked-out none s o n readings p r e = tt
 worked-out (held t) none o n readings p r e = tt
@@ -28,9 +28,9 @@ worked-out (held t) (held s) (held a) n readings p r e =
     verdicts-right .right (a .space) (whiteOf t) (sumsOf t s) (sumsOf t readings) (a .units)
     (white-kept t p) (twice-kept t s r) (twice-kept t readings e)
 
-pub tried-told : (l : Ledger) (readings : List ℕ) → Kept l → Owed l readings (triedAt l readings)
-tried-told l readings k =
+pub tried-told : (l : Ledger) (table : ℕ) (readings : List ℕ) → Kept l → Owed l readings (triedAt l table readings)
+tried-told l table readings k =
     either _ (Owed l readings) _ _ (λ c. tt)
     (λ e.
-    let f = clear-tail _ _ _ (clear-tail _ _ _ (clear-tail _ _ _ (clear-tail _ _ _ e))) in
+    let f = clear-tail _ _ _ (clear-tail _ _ _ (clear-tail _ _ _ (clear-tail _ _ _ (clear-tail _ _ _ e)))) in
     worked-out (l .conditions) (l .standard) (l .tolerance) (l .counts) readings (k .tables) (k .standard) (clear-head _ _ _ (clear-tail _ _ _ f)))

@@ -1,11 +1,13 @@
 -- What the session finds of a trial is what the ledger works out, since prepared weights give the same sums as the tables. Assumes nothing.
-use mathlib.Core.Path.{_≡_, refl, _∙_, ap}
-use mathlib.Core.Bool.{Bool, true}
-use mathlib.Core.List.{List}
+use mathlib.Core.Path.{_≡_, _∙_, ap}
+use mathlib.Core.Bool.{Bool, true, false, not}
+use mathlib.Core.List.{List, [], _∷_}
 use Prim.Native.Nat.{ℕ}
+use Rattle.causes.specs.declared.Cause.the-variants.{NoConditions, NoStandard, NoTolerance, NoSuchTable}
 use Rattle.causes.specs.declared.Checked.{Checked}
 use Rattle.causes.specs.Causes.{Numbered, accepted, refusal}
-use Rattle.causes.specs.Checks.{firstOf, unless}
+use Rattle.causes.specs.Checks.{Check, check, firstOf, unless}
+use Rattle.causes.proofs.Checks.{alike}
 use Rattle.cie.specs.declared.Colour.{Colour}
 use Rattle.cie.specs.declared.Space.{Space}
 use Rattle.cie.specs.declared.Verdict.{Verdict}
@@ -16,20 +18,23 @@ use Rattle.cie.specs.Verdict.{margin, verdictOf, difference}
 use Rattle.conditions.specs.Conditions.{conditionsOf}
 use Rattle.conditions.specs.Measure.{colourUnder}
 use Rattle.conditions.proofs.Dots.{sums-same}
-use Rattle.rules.specs.Rules.{toleranceOf, judgedBy}
+use Rattle.tallies.specs.ByTable.{isTable}
+use Rattle.tallies.specs.Tallies.{tallySum, setOf}
+use Rattle.tallies.proofs.ByTable.{at-map}
+use Rattle.rules.specs.Rules.{toleranceOf, hasStandard, hasTolerance, judgedBy, judgedOf}
 use Rattle.rules.proofs.InSpace.{tolerant, judged-in}
 use Rattle.trials.specs.Outcome.{Amount, TrialOutcome}
 use Rattle.trials.specs.Checks.{trialChecks}
 use Rattle.trials.specs.Tried.{judgedAs, triedBy}
 use Rattle.session.specs.Outcome.{VerdictCounts}
-use Rattle.session.specs.Ledger.{Held, none, held, Ledger, countSum, judgedAt, triedAt}
+use Rattle.session.specs.Ledger.{Held, none, held, isHeld, Ledger, noCounts, countFor, rowsInForce, judgedAt, workedOut, triedAt}
 use Rattle.session.specs.Served.{standingOf}
-use Rattle.session.specs.Stands.{sessionOf}
+use Rattle.session.specs.Stands.{heldConditions, heldStandard, heldTolerance, talliesOf, sessionOf}
 
 pub colour-same : (t : Tables) (readings : List ℕ) → colourUnder (conditionsOf t) readings ≡ colourAt t readings
 colour-same t readings = ap (colourOf (whiteOf t)) (sums-same t readings)
 
-abbrev pub ledgerOf : Held Tables → Held (List ℕ) → Held Amount → VerdictCounts → Ledger
+abbrev pub ledgerOf : Held Tables → Held (List ℕ) → Held Amount → List VerdictCounts → Ledger
 ledgerOf conditions standard tolerance counts = record { conditions = conditions; standard = standard; tolerance = tolerance; counts = counts }
 
 -- the program's judgement of an amount is the ledger's, in the amount's space
@@ -41,19 +46,42 @@ judging space units p q =
     let told : Space → ℕ → Numbered TrialOutcome = λ k n. accepted (record { colour = q; e = record { space = k; units = n }; verdict = verdict }) in
     ap (judgedAs q) (j .judged) ∙ (λ i. told (j .in-space i) (j .counted i))
 
--- what the session finds of a trial is what the ledger works out
-trying : (readings : List ℕ) (t : Held Tables) (s : Held (List ℕ)) (o : Held Amount) (n : VerdictCounts) →
-    let l = ledgerOf t s o n in triedBy (sessionOf l .conditions) (standingOf (sessionOf l)) readings ≡ triedAt l readings
-unfolding triedBy
-trying readings none s o n = unfold firstOf unless in refl
-trying readings (held t) none o n = unfold firstOf unless in refl
-trying readings (held t) (held s) none n = unfold firstOf unless in refl
-trying readings (held t) (held s) (held a) n =
+-- the tallies of a table count what the ledger counts for it
+count-same : (l : Ledger) (table : ℕ) → tallySum (setOf (sessionOf l .tallies .sets) table) ≡ countFor l table
+count-same l table = ap tallySum (at-map talliesOf noCounts (l .counts) table)
+
+-- the number of the table is the first check
+abbrev tableCheck : ℕ → Check
+tableCheck table = check (not (isTable table)) NoSuchTable
+
+-- what the session finds of a trial, whatever its table has counted, is what the ledger works out
+trying : (table count : ℕ) (readings : List ℕ) (t : Held Tables) (s : Held (List ℕ)) (o : Held Amount) →
+    let conditions = heldConditions t in
+    let colour = colourUnder conditions readings in
+    unless
+    (firstOf (trialChecks table (isHeld t) (hasStandard (heldStandard t s)) (hasTolerance (heldTolerance o)) count (conditions .rows) readings))
+    refusal
+    (judgedAs colour (judgedOf (heldStandard t s) (heldTolerance o) colour))
+    ≡ unless (firstOf (trialChecks table (isHeld t) (isHeld s) (isHeld o) count (rowsInForce t) readings)) refusal (workedOut t s o readings)
+trying table count readings none s o = alike (tableCheck table ∷ []) NoConditions _ _ _ _ _
+trying table count readings (held t) none o = alike (tableCheck table ∷ check false NoConditions ∷ []) NoStandard _ _ _ _ _
+trying table count readings (held t) (held s) none =
+    alike (tableCheck table ∷ check false NoConditions ∷ check false NoStandard ∷ []) NoTolerance _ _ _ _ _
+trying table count readings (held t) (held s) (held a) =
     let judge : Colour → Numbered TrialOutcome = λ q. judgedAs q (judgedBy (toleranceOf (a .space) (a .units)) (colourAt t s) q) in
-    let found : Bool → Checked = λ b. firstOf (trialChecks true true b (countSum n) (rowsAt (t .spacing)) readings) in
+    let found : Bool → Checked = λ b. firstOf (trialChecks table true true b count (rowsAt (t .spacing)) readings) in
     ap (λ (b : Bool). unless (found b) refusal (judge (colourUnder (conditionsOf t) readings))) (tolerant (a .space) (a .units))
     ∙ ap (λ (q : Numbered TrialOutcome). unless (found true) refusal q)
     (ap judge (colour-same t readings) ∙ judging (a .space) (a .units) (colourAt t s) (colourAt t readings))
 
-pub tried-same : (l : Ledger) (readings : List ℕ) → triedBy (sessionOf l .conditions) (standingOf (sessionOf l)) readings ≡ triedAt l readings
-tried-same l readings = trying readings (l .conditions) (l .standard) (l .tolerance) (l .counts)
+pub tried-same : (l : Ledger) (table : ℕ) (readings : List ℕ) →
+    triedBy (sessionOf l .conditions) (standingOf (sessionOf l)) table readings ≡ triedAt l table readings
+unfolding triedBy
+tried-same l table readings =
+    trying table (tallySum (setOf (sessionOf l .tallies .sets) table)) readings (l .conditions) (l .standard) (l .tolerance)
+    ∙ ap
+    (λ (n : ℕ).
+    unless (firstOf (trialChecks table (isHeld (l .conditions)) (isHeld (l .standard)) (isHeld (l .tolerance)) n (rowsInForce (l .conditions)) readings))
+    refusal
+    (workedOut (l .conditions) (l .standard) (l .tolerance) readings))
+    (count-same l table)

@@ -1,15 +1,17 @@
 -- Demand 3: "a single claim about a list of these five calls as a whole, of any length", with calls that only look anywhere among them.
 -- Assumes nothing.
 use mathlib.Core.Path.{_≡_}
-use mathlib.Core.Bool.{Bool, true, false, cond}
-use mathlib.Core.List.{List, [], _∷_}
+use mathlib.Core.Bool.{Bool, true, false, cond, _&&_}
+use mathlib.Core.List.{List, [], _∷_, map}
 use Prim.Native.Nat.{ℕ, _+_}
+use lib.Dec.{eqb}
 use Rattle.causes.specs.Causes as causes
 use Rattle.cie.specs.declared.Verdict.{Verdict}
 use Rattle.cie.specs.declared.Verdict.the-variants.{Pass, Fail, OnTheLine}
 use Rattle.cie.specs.Sums.{Tables, sumsOf, whiteOf}
 use Rattle.cie.specs.Exact.{squaresAt}
 use Rattle.cie.specs.Verdict.{Told}
+use Rattle.tallies.specs.ByTable.{tableNumbers}
 use Rattle.trials.specs.Outcome.{Amount}
 use Rattle.looks.specs.Look.{Look, preview, Sight, previewed}
 use Rattle.session.specs.declared.Session.{Session}
@@ -60,7 +62,7 @@ TrialTold l readings (refused cause) = Unit
 
 -- Document 02: "the mission's promise about verdicts covers what they show"
 abbrev pub SightTold : Ledger → Look → Sight → Type 0
-SightTold l (preview readings) (previewed t) = VerdictAt l readings (t .verdict)
+SightTold l (preview table readings) (previewed t) = VerdictAt l readings (t .verdict)
 
 abbrev pub LookTold : Ledger → Look → Outcome → Type 0
 LookTold l k accepted = ⊥
@@ -71,7 +73,8 @@ LookTold l k (seen (causes.accepted sight)) = SightTold l k sight
 LookTold l k (seen (causes.refused cause)) = Unit
 LookTold l k (refused cause) = ⊥
 
--- "every report's tallies are exact": the verdicts that the trials before it in the list were given, counted over the list itself
+-- "every report's tallies are exact": "all eight sets, each counting the verdicts of the trials that named its table", of those before it in the
+-- list, counted over the list itself
 abbrev pub isPass : Verdict → Bool
 isPass Pass = true
 isPass Fail = false
@@ -95,28 +98,31 @@ shows p (counted r) = false
 shows p (seen answer) = false
 shows p (refused cause) = false
 
--- whether a call is a trial that was given such a verdict: no other call is counted, whatever it shows
-abbrev pub given : (Verdict → Bool) → Call → Outcome → Bool
-given p (open-tables t) o = false
-given p (open-light light spacing) o = false
-given p (set-standard readings) o = false
-given p (set-tolerance space amount) o = false
-given p (trial readings) o = shows p o
-given p report o = false
-given p (look k) o = false
+-- whether a call is a trial that named this table and was given such a verdict: no other call is counted, whatever it shows
+abbrev pub given : ℕ → (Verdict → Bool) → Call → Outcome → Bool
+given table p (open-tables t) o = false
+given table p (open-light light spacing) o = false
+given table p (set-standard readings) o = false
+given table p (set-tolerance space amount) o = false
+given table p (trial named readings) o = eqb table named && shows p o
+given table p report o = false
+given table p (look k) o = false
 
-unfoldable pub timesGiven : (Verdict → Bool) → List Event → ℕ
-timesGiven p [] = 0
-timesGiven p (e ∷ es) = cond (given p (e .call) (e .outcome)) (timesGiven p es + 1) (timesGiven p es)
+unfoldable pub timesGiven : ℕ → (Verdict → Bool) → List Event → ℕ
+timesGiven table p [] = 0
+timesGiven table p (e ∷ es) = cond (given table p (e .call) (e .outcome)) (timesGiven table p es + 1) (timesGiven table p es)
 
-abbrev pub verdictsIn : List Event → VerdictCounts
-verdictsIn es = record { passed = timesGiven isPass es; failed = timesGiven isFail es; line = timesGiven isLine es }
+abbrev pub verdictsFor : List Event → ℕ → VerdictCounts
+verdictsFor es table = record { passed = timesGiven table isPass es; failed = timesGiven table isFail es; line = timesGiven table isLine es }
+
+abbrev pub verdictsIn : List Event → List VerdictCounts
+verdictsIn es = map (verdictsFor es) tableNumbers
 
 abbrev pub ReportTold : List Event → Outcome → Type 0
 ReportTold before accepted = ⊥
 ReportTold before (coloured colour) = ⊥
 ReportTold before (tried t) = ⊥
-ReportTold before (counted r) = r .counts ≡ verdictsIn before
+ReportTold before (counted r) = r .sets ≡ verdictsIn before
 ReportTold before (seen answer) = ⊥
 ReportTold before (refused cause) = ⊥
 
@@ -134,7 +140,7 @@ CallTold before l (open-tables t) o = NoVerdict o
 CallTold before l (open-light light spacing) o = NoVerdict o
 CallTold before l (set-standard readings) o = NoVerdict o
 CallTold before l (set-tolerance space amount) o = NoVerdict o
-CallTold before l (trial readings) o = TrialTold l readings o
+CallTold before l (trial table readings) o = TrialTold l readings o
 CallTold before l report o = ReportTold before o
 CallTold before l (look k) o = LookTold l k o
 

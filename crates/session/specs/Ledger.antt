@@ -1,10 +1,12 @@
 -- Document 01, "Lists of calls": the ledger, "which is fed each call with its arguments other than the session, and nothing that the program
 -- holds or answers". It stands on the paper alone. What it shares with the program are the lists of checks (CallChecks.antt names them), the tables
--- and formulas of `cie`, the causes' numbers and the words of an answer: no type and no rule that the program decides by. `sessionOf` in
--- Stands.antt is the one map from the ledger to the program. Assumes nothing.
+-- and formulas of `cie`, the inspection tables' numbers and limit and a list with something for each of them (tallies/specs/ByTable.antt), the
+-- causes' numbers and the words of an answer: no type and no rule that the program decides by. `sessionOf` in Stands.antt is the one map from the
+-- ledger to the program. Assumes nothing.
 use mathlib.Core.Bool.{Bool, true, false}
 use mathlib.Core.List.{List, [], _∷_}
 use Prim.Native.Nat.{ℕ, _+_}
+use lib.ListN.{replicate}
 use Rattle.causes.specs.declared.Cause.{Cause}
 use Rattle.causes.specs.declared.Cause.the-variants.{NoConditions, NoStandard, NoTolerance}
 use Rattle.causes.specs.Causes as causes
@@ -19,6 +21,7 @@ use Rattle.cie.specs.Lights.{lightTables}
 use Rattle.cie.specs.Colour.{colourAt}
 use Rattle.cie.specs.Verdict.{margin, verdictOf, difference}
 use Rattle.conditions.specs.Checks.{tableChecks, lightChecks}
+use Rattle.tallies.specs.ByTable.{tableCount, atTable, changedAt}
 use Rattle.rules.specs.Standing.{toleranceChecks}
 use Rattle.trials.specs.Outcome.{Amount, TrialOutcome}
 use Rattle.trials.specs.Checks.{trialChecks}
@@ -35,16 +38,19 @@ abbrev pub isHeld : {A : Type 0} → Held A → Bool
 isHeld none = false
 isHeld (held a) = true
 
--- "It has conditions, the standard's spectrum, a tolerance and three counts"
+-- "It has conditions, the standard's spectrum, a tolerance and three counts", which document 02 has "for each" table
 pub record Ledger : Type 0 where
   pub conditions : Held Tables
   pub standard : Held (List ℕ)
   pub tolerance : Held Amount
-  pub counts : VerdictCounts
+  pub counts : List VerdictCounts
+
+abbrev pub noCounts : VerdictCounts
+noCounts = record { passed = 0; failed = 0; line = 0 }
 
 -- "it starts with none of the first three and with counts of 0"
 abbrev pub emptyLedger : Ledger
-emptyLedger = record { conditions = none; standard = none; tolerance = none; counts = record { passed = 0; failed = 0; line = 0 } }
+emptyLedger = record { conditions = none; standard = none; tolerance = none; counts = replicate tableCount noCounts }
 
 -- the ledger after a call, and the call's outcome
 pub record Entry : Type 0 where
@@ -77,15 +83,18 @@ abbrev pub rowsInForce : Held Tables → ℕ
 rowsInForce none = 0
 rowsInForce (held t) = rowsAt (t .spacing)
 
--- 10, session full: "tallies sum to 100,000", of those that the ledger has
+-- 10, session full: "the named table's tallies sum to 100,000", of those that the ledger has
 abbrev pub countSum : VerdictCounts → ℕ
 countSum n = n .passed + n .failed + n .line
 
+abbrev pub countFor : Ledger → ℕ → ℕ
+countFor l table = countSum (atTable noCounts (l .counts) table)
+
 -- "adds 1 to that verdict's count"
-abbrev pub countedIn : VerdictCounts → Verdict → VerdictCounts
-countedIn n Pass = record { passed = n .passed + 1; failed = n .failed; line = n .line }
-countedIn n Fail = record { passed = n .passed; failed = n .failed + 1; line = n .line }
-countedIn n OnTheLine = record { passed = n .passed; failed = n .failed; line = n .line + 1 }
+abbrev pub countedIn : Verdict → VerdictCounts → VerdictCounts
+countedIn Pass n = record { passed = n .passed + 1; failed = n .failed; line = n .line }
+countedIn Fail n = record { passed = n .passed; failed = n .failed + 1; line = n .line }
+countedIn OnTheLine n = record { passed = n .passed; failed = n .failed; line = n .line + 1 }
 
 -- "E and the verdict by the formulas above": of the standard's colour p and the trial's q, in the space of the tolerance
 abbrev pub judgedAt : Amount → Colour → Colour → TrialOutcome
@@ -100,27 +109,33 @@ workedOut (held t) none tolerance readings = refusal NoStandard
 workedOut (held t) (held standard) none readings = refusal NoTolerance
 workedOut (held t) (held standard) (held tolerance) readings = causes.accepted (judgedAt tolerance (colourAt t standard) (colourAt t readings))
 
--- "At each call the call's checks run in their order": what a trial of these readings finds, or its cause
-abbrev pub triedAt : Ledger → List ℕ → Numbered TrialOutcome
-triedAt l readings =
+-- "At each call the call's checks run in their order": what a trial of these readings for a table finds, or its cause
+abbrev pub triedAt : Ledger → ℕ → List ℕ → Numbered TrialOutcome
+triedAt l table readings =
     unless
     (firstOf
-    (trialChecks (isHeld (l .conditions)) (isHeld (l .standard)) (isHeld (l .tolerance)) (countSum (l .counts)) (rowsInForce (l .conditions)) readings))
+    (trialChecks table (isHeld (l .conditions)) (isHeld (l .standard)) (isHeld (l .tolerance)) (countFor l table) (rowsInForce (l .conditions)) readings))
     refusal
     (workedOut (l .conditions) (l .standard) (l .tolerance) readings)
 
--- "and adds 1 to that verdict's count. It answers its own spectrum's colour, E and the verdict."
-abbrev pub countedAt : Ledger → Numbered TrialOutcome → Entry
-countedAt l (causes.accepted t) =
+-- "and adds 1 to that verdict's count.", of the table that it names. "It answers its own spectrum's colour, E and the verdict."
+abbrev pub countedAt : Ledger → ℕ → Numbered TrialOutcome → Entry
+countedAt l table (causes.accepted t) =
     record {
-      ledger = record { conditions = l .conditions; standard = l .standard; tolerance = l .tolerance; counts = countedIn (l .counts) (t .verdict) };
+      ledger =
+          record {
+            conditions = l .conditions;
+            standard = l .standard;
+            tolerance = l .tolerance;
+            counts = changedAt (countedIn (t .verdict)) (l .counts) table;
+          };
       outcome = tried t;
     }
-countedAt l (causes.refused cause) = record { ledger = l; outcome = refused cause }
+countedAt l table (causes.refused cause) = record { ledger = l; outcome = refused cause }
 
 -- Document 02, "Add a preview of a trial": "document 01's ledger works one out like a trial"
 abbrev pub lookedAt : Ledger → Look → Numbered Sight
-lookedAt l (preview readings) = mapped previewed (triedAt l readings)
+lookedAt l (preview table readings) = mapped previewed (triedAt l table readings)
 
 -- "and adds nothing": whatever a look answers, the ledger stays as it is
 abbrev pub seenAt : Ledger → Numbered Sight → Entry
@@ -133,8 +148,8 @@ entered l (open-light light spacing) = unless (firstOf (lightChecks light spacin
 entered l (set-standard readings) =
     unless (firstOf (standardChecks (isHeld (l .conditions)) (rowsInForce (l .conditions)) readings)) (refusedAt l) (standardAt l (l .conditions) readings)
 entered l (set-tolerance space amount) = unless (firstOf (toleranceChecks amount)) (refusedAt l) (toleranceAt l (record { space = space; units = amount }))
-entered l (trial readings) = countedAt l (triedAt l readings)
-entered l report = record { ledger = l; outcome = counted (record { counts = l .counts }) }
+entered l (trial table readings) = countedAt l table (triedAt l table readings)
+entered l report = record { ledger = l; outcome = counted (record { sets = l .counts }) }
 entered l (look k) = seenAt l (lookedAt l k)
 
 -- the outcomes of a list of calls, by the ledger

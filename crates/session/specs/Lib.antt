@@ -7,3 +7,4 @@ pub mod Stands
 pub mod Meets
 pub mod Claim
 pub mod Looks
+pub mod ByTable

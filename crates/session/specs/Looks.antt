@@ -22,7 +22,8 @@ asPreview (refused cause) = seen (causes.refused cause)
 
 -- "Its colour, E, verdict or cause equal those of the trial done on a copy of the session, and the session itself doesn't move."
 pub record PreviewIsTrial : Type 0 where
-  pub answer : (s : Session) (readings : List ℕ) → served s (look (preview readings)) .outcome ≡ asPreview (served s (trial readings) .outcome)
+  pub answer : (s : Session) (table : ℕ) (readings : List ℕ) →
+      served s (look (preview table readings)) .outcome ≡ asPreview (served s (trial table readings) .outcome)
   pub unmoved : (s : Session) (k : Look) → served s (look k) .session ≡ s
 
 -- a list without what stands at a place

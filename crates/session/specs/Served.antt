@@ -1,5 +1,7 @@
 -- What each call leaves and answers, as a function of the session and the call, refusals included. Assumes nothing.
 use mathlib.Core.Bool.{true, false}
+use mathlib.Core.List.{map}
+use Prim.Native.Nat.{ℕ}
 use Rattle.causes.specs.declared.Cause.{Cause}
 use Rattle.causes.specs.Causes as causes
 use Rattle.causes.specs.Causes.{causeNumber, Numbered}
@@ -10,12 +12,14 @@ use Rattle.conditions.specs.declared.Conditions.{Conditions}
 use Rattle.conditions.specs.Checks.{tableChecks, lightChecks}
 use Rattle.conditions.specs.Conditions.{conditionsOf, noConditions}
 use Rattle.conditions.specs.Measure.{colourUnder}
+use Rattle.tallies.specs.declared.Tallies.{Tallies}
+use Rattle.tallies.specs.declared.TableTallies.{TableTallies}
+use Rattle.tallies.specs.Tallies.{noSets, talliedFor, eachOf}
 use Rattle.rules.specs.declared.Tolerance.{Tolerance}
 use Rattle.rules.specs.declared.Tolerance.the-variants.{Unset}
 use Rattle.rules.specs.declared.Standard.the-variants.{Missing, Of}
-use Rattle.rules.specs.declared.Tallies.{Tallies}
 use Rattle.rules.specs.Standing.{toleranceChecks}
-use Rattle.rules.specs.Rules.{toleranceOf, noTallies, talliedBy}
+use Rattle.rules.specs.Rules.{toleranceOf}
 use Rattle.trials.specs.declared.Standing.{Standing}
 use Rattle.trials.specs.Outcome.{TrialOutcome}
 use Rattle.trials.specs.Tried.{trialOutcome, triedBy, ValidStanding}
@@ -37,7 +41,7 @@ abbrev pub outcomeOf : Answer → Outcome
 outcomeOf Accepted = accepted
 outcomeOf (Coloured colour) = coloured colour
 outcomeOf (Tried t) = tried (trialOutcome t)
-outcomeOf (Counted r) = counted (record { counts = countsOf (r .tallies) })
+outcomeOf (Counted r) = counted (record { sets = map countsOf (eachOf (r .tallies)) })
 outcomeOf (Seen answer) = seen (seenAnswer answer)
 outcomeOf (Refused cause) = refused (causeNumber cause)
 
@@ -51,7 +55,7 @@ shown r = record { session = r .session; outcome = outcomeOf (r .answer) }
 
 -- "Fresh: nothing held, tallies 0."
 abbrev pub freshSession : Session
-freshSession = record { conditions = noConditions; opened = false; standard = Missing; tolerance = Unset; tallies = noTallies }
+freshSession = record { conditions = noConditions; opened = false; standard = Missing; tolerance = Unset; tallies = record { sets = noSets } }
 
 -- "A refusal returns its number only; session and buffers remain as before."
 abbrev pub refusedBy : Session → Cause → Reply
@@ -80,13 +84,14 @@ toleranceBy s t =
 abbrev pub standingOf : Session → Standing
 standingOf s = record { opened = s .opened; standard = s .standard; tolerance = s .tolerance; tallies = s .tallies }
 
-abbrev pub withTallies : Session → Tallies → Session
+abbrev pub withTallies : Session → TableTallies → Session
 withTallies s tallies = record { conditions = s .conditions; opened = s .opened; standard = s .standard; tolerance = s .tolerance; tallies = tallies }
 
--- "Its tally rises by 1.": of a trial that returns a verdict, the verdict's
-abbrev pub countedBy : Session → Numbered TrialOutcome → Reply
-countedBy s (causes.accepted t) = record { session = withTallies s (talliedBy (s .tallies) (t .verdict)); outcome = tried t }
-countedBy s (causes.refused cause) = record { session = s; outcome = refused cause }
+-- "Its tally rises by 1.": of a trial that returns a verdict, the verdict's, for the table that the trial names
+abbrev pub countedBy : Session → ℕ → Numbered TrialOutcome → Reply
+countedBy s table (causes.accepted t) =
+    record { session = withTallies s (record { sets = talliedFor (s .tallies .sets) table (t .verdict) }); outcome = tried t }
+countedBy s table (causes.refused cause) = record { session = s; outcome = refused cause }
 
 -- "the session itself doesn't move", whatever a look answers
 abbrev pub seenBy : Session → Numbered Sight → Reply
@@ -98,8 +103,8 @@ served s (open-light light spacing) = unless (firstOf (lightChecks light spacing
 served s (set-standard readings) =
     unless (firstOf (standardChecks (s .opened) (s .conditions .rows) readings)) (refusedBy s) (standardBy s (colourUnder (s .conditions) readings))
 served s (set-tolerance space amount) = unless (firstOf (toleranceChecks amount)) (refusedBy s) (toleranceBy s (toleranceOf space amount))
-served s (trial readings) = countedBy s (triedBy (s .conditions) (standingOf s) readings)
-served s report = record { session = s; outcome = counted (record { counts = countsOf (s .tallies) }) }
+served s (trial table readings) = countedBy s table (triedBy (s .conditions) (standingOf s) table readings)
+served s report = record { session = s; outcome = counted (record { sets = map countsOf (s .tallies .sets) }) }
 served s (look k) = seenBy s (lookedBy (s .conditions) (standingOf s) k)
 
 -- the one invariant: what holds of "a fresh one, or one that an earlier call returned or left"

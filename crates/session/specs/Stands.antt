@@ -1,13 +1,13 @@
 -- The session that stands for a ledger: the one map from the ledger to the program. Assumes nothing.
-use mathlib.Core.List.{List}
+use mathlib.Core.List.{List, map}
 use Prim.Native.Nat.{ℕ}
 use Rattle.cie.specs.Sums.{Tables}
 use Rattle.cie.specs.Colour.{colourAt}
 use Rattle.conditions.specs.declared.Conditions.{Conditions}
 use Rattle.conditions.specs.Conditions.{conditionsOf, noConditions}
+use Rattle.tallies.specs.declared.Tallies.{Tallies}
 use Rattle.rules.specs.declared.Tolerance.{Tolerance}
 use Rattle.rules.specs.declared.Tolerance.the-variants.{Unset}
-use Rattle.rules.specs.declared.Tallies.{Tallies}
 use Rattle.rules.specs.declared.Standard.{Standard}
 use Rattle.rules.specs.declared.Standard.the-variants.{Missing, Of}
 use Rattle.rules.specs.Rules.{toleranceOf}
@@ -39,5 +39,5 @@ sessionOf l =
       opened = isHeld (l .conditions);
       standard = heldStandard (l .conditions) (l .standard);
       tolerance = heldTolerance (l .tolerance);
-      tallies = talliesOf (l .counts);
+      tallies = record { sets = map talliesOf (l .counts) };
     }

@@ -1,4 +1,5 @@
-// A session that judges trials against a standard: conditions, a standard, a tolerance and three tallies, by value.
+// A session that judges trials against a standard: conditions, a standard, a tolerance and three tallies for each
+// inspection table, by value.
 ghost use mathlib.Core.Path.{_≡_};
 ghost use Rattle.cie.specs.Sums.{tablesOf};
 ghost use Rattle.session.specs.Call.{open-tables, open-light, set-standard, set-tolerance, trial, report};
@@ -13,9 +14,9 @@ use conditions::measure;
 use conditions::measure::Measured;
 use looks::Seen;
 use rules::Standard;
-use rules::Tallies;
 use rules::Tolerance;
-use rules::standing::tallied;
+use tallies::EightSets;
+use tallies::TableTallies;
 use trials::FRAME_LIMIT;
 use trials::Standing;
 use trials::TrialAnswer;
@@ -28,12 +29,12 @@ pub struct Session {
     opened: bool,
     standard: Standard,
     tolerance: Tolerance,
-    tallies: Tallies,
+    tallies: TableTallies,
 }
 
-// What a report answers.
+// What a report answers: the tallies of each table.
 pub struct ReportAnswer {
-    pub tallies: Tallies,
+    pub tallies: EightSets,
 }
 
 // What a call answers.
@@ -63,11 +64,7 @@ impl Session {
             opened: false,
             standard: Standard::Missing,
             tolerance: Tolerance::Unset,
-            tallies: Tallies {
-                passed: 0,
-                failed: 0,
-                line: 0,
-            },
+            tallies: TableTallies::none(),
         }
     }
 
@@ -220,16 +217,17 @@ impl Session {
         }
     }
 
-    // Judges a spectrum against the standard: its colour, E and the verdict, which is tallied.
-    pub fn trial(mut self, readings: &[u16]) -> Served
+    // Judges a spectrum against the standard: its colour, E and the verdict, which is tallied for the table.
+    pub fn trial(mut self, table: u32, readings: &[u16]) -> Served
         requires { ⌜ Valid self ⌝ }
-        ensures { λ r. ⌜ Meets self (trial (now (readings .entry))) r ⌝ }
+        ensures { λ r. ⌜ Meets self (trial table (now (readings .entry))) r ⌝ }
     {
         let standing = self.standing();
         let rows = self.conditions.rows;
         let white = self.conditions.white;
         let found = trials::tried(
             standing,
+            table,
             rows,
             white,
             readings,
@@ -243,20 +241,22 @@ impl Session {
         };
         let tallies = self.tallies;
         let verdict = trial.verdict;
-        self.tallies = tallied(tallies, verdict);
+        self.tallies = tallies.tallied(table, verdict);
         Served {
             session: self,
             answer: Answer::Tried(trial),
         }
     }
 
-    // The tallies.
+    // The tallies of each table.
     pub fn report(self) -> Served
         requires { ⌜ Valid self ⌝ }
         ensures { λ r. ⌜ Meets self report r ⌝ }
     {
         let tallies = self.tallies;
-        let report = ReportAnswer { tallies: tallies };
+        let report = ReportAnswer {
+            tallies: tallies.each(),
+        };
         Served {
             session: self,
             answer: Answer::Counted(report),

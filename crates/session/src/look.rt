@@ -8,16 +8,17 @@ use crate::Served;
 use crate::Session;
 
 impl Session {
-    // Shows what a trial of a spectrum would answer, and tallies nothing.
-    pub fn preview(self, readings: &[u16]) -> Served
+    // Shows what a trial of a spectrum for a table would answer, and tallies nothing.
+    pub fn preview(self, table: u32, readings: &[u16]) -> Served
         requires { ⌜ Valid self ⌝ }
-        ensures { λ r. ⌜ Meets self (look (preview (now (readings .entry)))) r ⌝ }
+        ensures { λ r. ⌜ Meets self (look (preview table (now (readings .entry)))) r ⌝ }
     {
         let standing = self.standing();
         let rows = self.conditions.rows;
         let white = self.conditions.white;
         let seen = looks::preview(
             standing,
+            table,
             rows,
             white,
             readings,

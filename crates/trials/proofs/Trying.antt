@@ -18,45 +18,47 @@ use Rattle.conditions.specs.declared.measure.Measured.the-variants.{Whole, Refu
 use Rattle.conditions.specs.Checks.{spectrumChecks}
 use Rattle.conditions.specs.Measure.{measureAnswer, measuredBy}
 use Rattle.conditions.proofs.Measuring.{measured-refused, measured-whole}
+use Rattle.tallies.specs.Tallies.{tallySum, setOf}
 use Rattle.rules.specs.declared.Judged.{Judged}
 use Rattle.rules.specs.Standing.{standingChecks}
-use Rattle.rules.specs.Rules.{hasStandard, hasTolerance, judgedOf, tallySum}
+use Rattle.rules.specs.Rules.{hasStandard, hasTolerance, judgedOf}
 use Rattle.trials.specs.declared.Standing.{Standing}
 use Rattle.trials.specs.Outcome.{TrialOutcome}
 use Rattle.trials.specs.Checks.{frameLimit}
 use Rattle.trials.specs.Tried.{judgedAs, triedBy}
 
 -- what must stand before a trial's spectrum is looked at
-abbrev standingIn : Standing → List Check
-standingIn s = standingChecks (s .opened) (hasStandard (s .standard)) (hasTolerance (s .tolerance)) (tallySum (s .tallies))
+abbrev standingIn : Standing → ℕ → List Check
+standingIn s table =
+    standingChecks table (s .opened) (hasStandard (s .standard)) (hasTolerance (s .tolerance)) (tallySum (setOf (s .tallies .sets) table))
 
-abbrev pub Stands : Standing → Type 0
-Stands s = firstOf (standingIn s) ≡ Clear
+abbrev pub Stands : Standing → ℕ → Type 0
+Stands s table = firstOf (standingIn s table) ≡ Clear
 
-module _ (c : Conditions) (s : Standing) (readings : List ℕ) where
+module _ (c : Conditions) (s : Standing) (table : ℕ) (readings : List ℕ) where
   -- the checks of the spectrum
   abbrev measuring : List Check
   measuring = spectrumChecks frameLimit (c .rows) readings
 
   -- where something does not stand
-  pub tried-fallen : {cause : Cause} → firstOf (standingIn s) ≡ Because cause → triedBy c s readings ≡ refusal cause
+  pub tried-fallen : {cause : Cause} → firstOf (standingIn s table) ≡ Because cause → triedBy c s table readings ≡ refusal cause
   unfolding triedBy
-  tried-fallen h = refuses _ _ _ _ (first-because (standingIn s) measuring _ h)
+  tried-fallen h = refuses _ _ _ _ (first-because (standingIn s table) measuring _ h)
 
   -- where all stands, the spectrum's checks decide
-  past : Stands s → (a : Numbered TrialOutcome) →
-      unless (firstOf (standingIn s ++ measuring)) refusal a ≡ unless (firstOf measuring) refusal a
-  past stands a = ap (λ (t : Checked). unless t refusal a) (first-clear (standingIn s) measuring stands)
+  past : Stands s table → (a : Numbered TrialOutcome) →
+      unless (firstOf (standingIn s table ++ measuring)) refusal a ≡ unless (firstOf measuring) refusal a
+  past stands a = ap (λ (t : Checked). unless t refusal a) (first-clear (standingIn s table) measuring stands)
 
-  module _ (stands : Stands s) {m : Measured} (e : measureAnswer m ≡ measuredBy frameLimit (c .rows) (c .x) (c .y) (c .z) readings) where
-    pub tried-refused : {cause : Cause} → m ≡ Refused cause → triedBy c s readings ≡ refusal cause
+  module _ (stands : Stands s table) {m : Measured} (e : measureAnswer m ≡ measuredBy frameLimit (c .rows) (c .x) (c .y) (c .z) readings) where
+    pub tried-refused : {cause : Cause} → m ≡ Refused cause → triedBy c s table readings ≡ refusal cause
     unfolding triedBy
     tried-refused told =
         let w = measured-refused frameLimit (c .rows) _ _ _ _ e told in
         past stands _ ∙ refuses _ _ _ _ (w .1) ∙ ap (λ (n : ℕ). refused n) (w .2)
 
     pub tried-whole : {sums : Sums} {colour : Colour} {j : Judged} → m ≡ Whole sums → colour ≡ colourOf (c .white .sums) sums →
-        j ≡ judgedOf (s .standard) (s .tolerance) colour → triedBy c s readings ≡ judgedAs colour j
+        j ≡ judgedOf (s .standard) (s .tolerance) colour → triedBy c s table readings ≡ judgedAs colour j
     unfolding triedBy
     tried-whole {sums} {colour} told k h =
         let w = measured-whole frameLimit (c .rows) _ _ _ _ e told in

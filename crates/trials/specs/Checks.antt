@@ -1,4 +1,5 @@
--- Document 01, "Session": the checks of a trial, in their order, and the limit of the readings that a session is given. Assumes nothing.
+-- Document 01, "Session", and document 02, "Tallies by inspection table": the checks of a trial, in their order, and the limit of the readings
+-- that a session is given. Assumes nothing.
 use mathlib.Core.Bool.{Bool}
 use mathlib.Core.List.{List, _++_}
 use Prim.Native.Nat.{ℕ}
@@ -11,6 +12,7 @@ use Rattle.rules.specs.Standing.{standingChecks}
 abbrev pub frameLimit : ℕ
 frameLimit = readingLimit
 
--- "Trial (spectrum): 6, 7, 8, 10, 1, 2.", with the rows of the spacing in force
-abbrev pub trialChecks : Bool → Bool → Bool → ℕ → ℕ → List ℕ → List Check
-trialChecks opened standard tolerance count rows readings = standingChecks opened standard tolerance count ++ spectrumChecks frameLimit rows readings
+-- 18 "checked first in a trial or preview"; "Trial (spectrum): 6, 7, 8, 10, 1, 2.", with the rows of the spacing in force
+abbrev pub trialChecks : ℕ → Bool → Bool → Bool → ℕ → ℕ → List ℕ → List Check
+trialChecks table opened standard tolerance count rows readings =
+    standingChecks table opened standard tolerance count ++ spectrumChecks frameLimit rows readings

@@ -1,7 +1,7 @@
--- What a trial finds under conditions, by what stands beside them, refusals included: the one working out of a trial and of a preview.
+-- What a trial for a table finds under conditions, by what stands beside them, refusals included: the one working out of a trial and of a preview.
 -- Assumes nothing.
 use mathlib.Core.List.{List}
-use Prim.Native.Nat.{ℕ, _≤_}
+use Prim.Native.Nat.{ℕ}
 use Rattle.causes.specs.declared.Cause.the-variants.{NoTolerance}
 use Rattle.causes.specs.Causes.{Numbered, accepted, refusal}
 use Rattle.causes.specs.Checks.{firstOf, unless}
@@ -13,8 +13,8 @@ use Rattle.conditions.specs.Measure.{colourUnder}
 use Rattle.rules.specs.declared.Difference.{Difference}
 use Rattle.rules.specs.declared.Judged.{Judged}
 use Rattle.rules.specs.declared.Judged.the-variants.{Without, By}
-use Rattle.rules.specs.Standing.{sessionLimit}
-use Rattle.rules.specs.Rules.{hasTolerance, hasStandard, SizedStandard, spaceOf, unitsOf, judgedOf, tallySum}
+use Rattle.tallies.specs.Tallies.{tallySum, setOf, Within}
+use Rattle.rules.specs.Rules.{hasTolerance, hasStandard, SizedStandard, spaceOf, unitsOf, judgedOf}
 use Rattle.trials.specs.declared.Standing.{Standing}
 use Rattle.trials.specs.declared.TrialAnswer.{TrialAnswer}
 use Rattle.trials.specs.declared.TrialResult.{TrialResult}
@@ -42,11 +42,12 @@ abbrev pub judgedAs : Colour → Judged → Numbered TrialOutcome
 judgedAs colour Without = refusal NoTolerance
 judgedAs colour (By e verdict) = accepted (record { colour = colour; e = amountOf e; verdict = verdict })
 
--- "Trial (spectrum): 6, 7, 8, 10, 1, 2. Returns colour, E in the tolerance's space, and the verdict."
-unfoldable pub triedBy : Conditions → Standing → List ℕ → Numbered TrialOutcome
-triedBy c s readings =
+-- 18; "Trial (spectrum): 6, 7, 8, 10, 1, 2. Returns colour, E in the tolerance's space, and the verdict."
+unfoldable pub triedBy : Conditions → Standing → ℕ → List ℕ → Numbered TrialOutcome
+triedBy c s table readings =
     unless
-    (firstOf (trialChecks (s .opened) (hasStandard (s .standard)) (hasTolerance (s .tolerance)) (tallySum (s .tallies)) (c .rows) readings))
+    (firstOf
+    (trialChecks table (s .opened) (hasStandard (s .standard)) (hasTolerance (s .tolerance)) (tallySum (setOf (s .tallies .sets) table)) (c .rows) readings))
     refusal
     (let colour = colourUnder c readings in judgedAs colour (judgedOf (s .standard) (s .tolerance) colour))
 
@@ -54,4 +55,4 @@ triedBy c s readings =
 pub record ValidStanding (c : Conditions) (s : Standing) : Type 0 where
   pub sound : Sound c
   pub standard : SizedStandard (s .standard)
-  pub count : tallySum (s .tallies) ≤ sessionLimit
+  pub tallies : Within (s .tallies .sets)

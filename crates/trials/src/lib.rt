@@ -13,10 +13,10 @@ use conditions::measure::Measured;
 use rules::Difference;
 use rules::Judged;
 use rules::Standard;
-use rules::Tallies;
 use rules::Tolerance;
 use rules::judging;
 use rules::standing::stands;
+use tallies::TableTallies;
 
 // The limit of the spectra that a session is given.
 pub const FRAME_LIMIT: u16 = READING_LIMIT;
@@ -26,7 +26,7 @@ pub struct Standing {
     pub opened: bool,
     pub standard: Standard,
     pub tolerance: Tolerance,
-    pub tallies: Tallies,
+    pub tallies: TableTallies,
 }
 
 // What a trial answers: its colour, E in the tolerance's space, and the verdict.
@@ -42,9 +42,10 @@ pub enum TrialResult {
     Refused(Cause),
 }
 
-// What a trial of a spectrum finds, which should have so many rows.
+// What a trial for a table finds of a spectrum, which should have so many rows.
 pub fn tried<'a>(
     standing: Standing,
+    table: u32,
     rows: usize,
     white: WhitePoint,
     readings: &[u16],
@@ -53,12 +54,12 @@ pub fn tried<'a>(
     z: &'a [u64],
 ) -> TrialResult
     requires { ⌜ ValidStanding (conditionsBy rows (now x) (now y) (now z) white) standing ⌝ }
-    ensures { λ r. ⌜ triedAnswer r ≡ triedBy (conditionsBy rows (now (x .entry)) (now (y .entry)) (now (z .entry)) white) standing (now (readings .entry)) ⌝ }
+    ensures { λ r. ⌜ triedAnswer r ≡ triedBy (conditionsBy rows (now (x .entry)) (now (y .entry)) (now (z .entry)) white) standing table (now (readings .entry)) ⌝ }
 {
     let standard = standing.standard;
     let tolerance = standing.tolerance;
     let tallies = standing.tallies;
-    let found = stands(standing.opened, standard, tolerance, tallies);
+    let found = stands(table, standing.opened, standard, tolerance, tallies);
     if let Checked::Because(cause) = found {
         return TrialResult::Refused(cause);
     }

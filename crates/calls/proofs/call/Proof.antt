@@ -29,10 +29,14 @@ returns-5 : tie.Need-returns-5
 returns-5 c = by-luv (read (c .before .before .before)) (c .before .before .match .keys5) (c .before .word5 .ensures) (c .set-tolerance2 .ensures)
 
 returns-6 : tie.Need-returns-6
-returns-6 c = by-trial (read (c .before .before .before)) (c .before .before .match .keys6) (c .before .spectrum2 .ensures) (c .trial .ensures)
+returns-6 c =
+    let t = c .before .before .before in
+    by-trial (read (t .before)) (t .match .keys6) (c .before .before .word6 .ensures) (c .before .spectrum2 .ensures) (c .trial .ensures)
 
 returns-7 : tie.Need-returns-7
-returns-7 c = by-preview (read (c .before .before .before)) (c .before .before .match .keys7) (c .before .spectrum3 .ensures) (c .preview .ensures)
+returns-7 c =
+    let t = c .before .before .before in
+    by-preview (read (t .before)) (t .match .keys7) (c .before .before .word7 .ensures) (c .before .spectrum3 .ensures) (c .preview .ensures)
 
 returns-8 : tie.Need-returns-8
 returns-8 c =
@@ -45,6 +49,8 @@ pub call-spec : {M : Type 1} → statement M
 call-spec =
     tie.close
     (tie.spec
+    (λ c κs. search needs)
+    (λ c κs. search needs)
     (λ c κs. search needs)
     (λ c κs. search needs)
     (λ c κs. search needs)

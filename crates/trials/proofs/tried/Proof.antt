@@ -25,13 +25,13 @@ fallen : tie.Need-returns
 fallen c =
     let found = c .before .before .before in
     let s = start found in
-    sym (tried-fallen (conditions s) (s .args .standing) (now (s .args .readings)) (sym (found .stands .ensures) ∙ c .before .found .given .1))
+    sym (tried-fallen (conditions s) (s .args .standing) (s .args .table) (now (s .args .readings)) (sym (found .stands .ensures) ∙ c .before .found .given .1))
 
 -- where the spectrum is measured, all stands
 abbrev begun : tie.After-measure → tie.Start
 begun m = start (m .before .before .before)
 
-stand : (m : tie.After-measure) → Stands (begun m .args .standing)
+stand : (m : tie.After-measure) → Stands (begun m .args .standing) (begun m .args .table)
 stand m = sym (m .before .before .before .stands .ensures) ∙ m .before .enum-told .given .1
 
 unmeasured : tie.Need-returns-2
@@ -40,7 +40,7 @@ unmeasured c =
     let m = c .before .before .before in
     let s = begun m in
     ap refusal (c .cause-of .ensures ∙ ap causeIn told)
-    ∙ sym (tried-refused (conditions s) (s .args .standing) (now (s .args .readings)) (stand m) (m .measure .ensures) told)
+    ∙ sym (tried-refused (conditions s) (s .args .standing) (s .args .table) (now (s .args .readings)) (stand m) (m .measure .ensures) told)
 
 colour-of-requires : tie.Need-colour-of-requires
 colour-of-requires c κs =
@@ -63,12 +63,12 @@ abbrev measured : tie.After-judge → tie.After-measure
 measured j = j .before .before .before .before .before
 
 finds : (j : tie.After-judge) →
-    triedBy (conditions (begun (measured j))) (begun (measured j) .args .standing) (now (begun (measured j) .args .readings))
+    triedBy (conditions (begun (measured j))) (begun (measured j) .args .standing) (begun (measured j) .args .table) (now (begun (measured j) .args .readings))
     ≡ judgedAs (j .before .colour-of .result) (j .judge .result)
 finds j =
     let m = measured j in
     let s = begun m in
-    tried-whole (conditions s) (s .args .standing) (now (s .args .readings)) (stand m) (m .measure .ensures)
+    tried-whole (conditions s) (s .args .standing) (s .args .table) (now (s .args .readings)) (stand m) (m .measure .ensures)
     (j .before .before .before .measured .given .1) (j .before .colour-of .ensures) (j .judge .ensures)
 
 unjudged : tie.Need-returns-3

@@ -4,7 +4,7 @@ use borrow.Author.Needs.{needs}
 use Rattle.session.specs.declared.Answer.{Answer}
 use Rattle.session.specs.Served.{outcomeOf}
 use Rattle.calls.specs.Records.{answerRecord}
-use Rattle.calls.proofs.Laid.{laid-accepted, laid-coloured, laid-tried, laid-counted, laid-refused}
+use Rattle.calls.proofs.Laid.{laid-accepted, laid-coloured, laid-tried, laid-refused}
 use Rattle.calls.proofs.answers.words_of.Statement.{statement}
 use Rattle.calls.proofs.answers.words_of.Tie as tie
 
@@ -18,7 +18,7 @@ returns-3 : tie.Need-returns-3
 returns-3 c = laid-tried (c .before .before .answer2 .given .1) (c .trial-words .ensures)
 
 returns-4 : tie.Need-returns-4
-returns-4 c = laid-counted (c .before .before .before .answer3 .given .1) (c .short-words2 .ensures)
+returns-4 c = c .report-words .ensures ∙ ap (λ (a : Answer). answerRecord (outcomeOf a)) (sym (c .before .before .answer3 .given .1))
 
 returns-5 : tie.Need-returns-5
 returns-5 c = c .seen-words .ensures ∙ ap (λ (a : Answer). answerRecord (outcomeOf a)) (sym (c .before .before .answer4 .given .1))

@@ -3,52 +3,74 @@ use mathlib.Core.Path.{_≡_, sym, ap, _∙_}
 use mathlib.Core.Bool.{not}
 use mathlib.Core.List.{[], _∷_}
 use borrow.Author.Needs.{needs}
-use borrow.Author.Tests.{eq-eqb, ne-eqb}
 use lib.Dec.{eqb}
-use Rattle.causes.specs.declared.Cause.the-variants.{SessionFull}
+use Rattle.causes.specs.declared.Cause.the-variants.{NoStandard, NoTolerance, SessionFull}
 use Rattle.causes.specs.Checks.{check, firstOf}
 use Rattle.causes.proofs.Checks.{first-fires, first-passes, first-ends}
-use Rattle.rules.specs.Standing.{sessionLimit, standingChecks}
-use Rattle.rules.specs.Rules.{hasStandard, hasTolerance, tallySum}
+use Rattle.tallies.specs.ByTable.{tableLimit}
+use Rattle.tallies.specs.Tallies.{tallySum, setOf}
+use Rattle.rules.specs.Standing.{standingChecks}
+use Rattle.rules.specs.Rules.{hasStandard, hasTolerance}
 use Rattle.rules.proofs.standing.stands.Statement.{statement}
 use Rattle.rules.proofs.standing.stands.Tie as tie
 
-returns : tie.Need-returns
-returns c = sym (first-fires _ _ _ (c .if1 .taken))
+unnumbered : tie.Need-returns
+unnumbered c = sym (first-fires _ _ _ (ap not (sym (c .before .is-table .ensures)) ∙ c .if1 .taken))
 
-returns-2 : tie.Need-returns-2
-returns-2 c =
-    sym
-    (first-passes _ _ _ (c .before .before .if1 .left)
-    ∙ first-fires _ _ _ (ap not (sym (c .before .has-standard .ensures)) ∙ c .if2 .taken))
+unopened : tie.Need-returns-2
+unopened c =
+    let table = c .before in
+    sym (first-passes _ _ _ (ap not (sym (table .before .is-table .ensures)) ∙ table .if1 .left) ∙ first-fires _ _ _ (c .if2 .taken))
 
-returns-3 : tie.Need-returns-3
-returns-3 c =
-    let standard = c .before .before in
-    sym
-    (first-passes _ _ _ (standard .before .before .if1 .left)
-    ∙ first-passes _ _ _ (ap not (sym (standard .before .has-standard .ensures)) ∙ standard .if2 .left)
-    ∙ first-fires _ _ _ (ap not (sym (c .before .has-tolerance .ensures)) ∙ c .if3 .taken))
-
--- past the first three tests
-abbrev start : tie.Else3 → tie.Start
-start c = c .before .before .before .before .before
-
-past : (c : tie.Else3) → let a = start c .args in
-    firstOf (standingChecks (a .opened) (hasStandard (a .standard)) (hasTolerance (a .tolerance)) (tallySum (a .tallies)))
-    ≡ firstOf (check (eqb (tallySum (a .tallies)) sessionLimit) SessionFull ∷ [])
+-- past the first two tests, and past all but the last
+past : (c : tie.Else2) → let a = c .before .before .before .args in
+    firstOf (standingChecks (a .table) (a .opened) (hasStandard (a .standard)) (hasTolerance (a .tolerance)) (tallySum (setOf (a .tallies .sets) (a .table))))
+    ≡ firstOf
+    (check (not (hasStandard (a .standard))) NoStandard
+    ∷ check (not (hasTolerance (a .tolerance))) NoTolerance
+    ∷ check (eqb (tallySum (setOf (a .tallies .sets) (a .table))) tableLimit) SessionFull
+    ∷ [])
 past c =
+    let table = c .before in
+    first-passes _ _ _ (ap not (sym (table .before .is-table .ensures)) ∙ table .if1 .left) ∙ first-passes _ _ _ (c .if2 .left)
+
+past-all : (c : tie.Else4) → let a = c .before .before .before .before .before .before .before .args in
+    firstOf (standingChecks (a .table) (a .opened) (hasStandard (a .standard)) (hasTolerance (a .tolerance)) (tallySum (setOf (a .tallies .sets) (a .table))))
+    ≡ firstOf (check (eqb (tallySum (setOf (a .tallies .sets) (a .table))) tableLimit) SessionFull ∷ [])
+past-all c =
     let standard = c .before .before in
-    first-passes _ _ _ (standard .before .before .if1 .left)
-    ∙ first-passes _ _ _ (ap not (sym (standard .before .has-standard .ensures)) ∙ standard .if2 .left)
-    ∙ first-passes _ _ _ (ap not (sym (c .before .has-tolerance .ensures)) ∙ c .if3 .left)
+    past (standard .before .before)
+    ∙ first-passes _ _ _ (ap not (sym (standard .before .has-standard .ensures)) ∙ standard .if3 .left)
+    ∙ first-passes _ _ _ (ap not (sym (c .before .has-tolerance .ensures)) ∙ c .if4 .left)
 
-returns-4 : tie.Need-returns-4
-returns-4 c = sym (past (c .before .before) ∙ first-fires _ _ _ (eq-eqb _ _ (sym (c .before .tally-sum .ensures) ∙ c .if4 .taken)))
+standardless : tie.Need-returns-3
+standardless c = sym (past (c .before .before) ∙ first-fires _ _ _ (ap not (sym (c .before .has-standard .ensures)) ∙ c .if3 .taken))
 
-returns-5 : tie.Need-returns-5
-returns-5 c =
-    sym (past (c .before .before) ∙ first-passes _ _ _ (ne-eqb _ _ (λ e. c .if4 .left (c .before .tally-sum .ensures ∙ e))) ∙ first-ends)
+toleranceless : tie.Need-returns-4
+toleranceless c =
+    let standard = c .before .before in
+    sym
+    (past (standard .before .before)
+    ∙ first-passes _ _ _ (ap not (sym (standard .before .has-standard .ensures)) ∙ standard .if3 .left)
+    ∙ first-fires _ _ _ (ap not (sym (c .before .has-tolerance .ensures)) ∙ c .if4 .taken))
+
+full : tie.Need-returns-5
+full c = sym (past-all (c .before .before) ∙ first-fires _ _ _ (sym (c .before .is-full .ensures) ∙ c .if5 .taken))
+
+clear : tie.Need-returns-6
+clear c = sym (past-all (c .before .before) ∙ first-passes _ _ _ (sym (c .before .is-full .ensures) ∙ c .if5 .left) ∙ first-ends)
 
 pub stands-spec : {M : Type 1} → statement M
-stands-spec = tie.close (tie.spec returns (λ c κs. search needs) returns-2 (λ c κs. search needs) returns-3 (λ c κs. search needs) returns-4 returns-5)
+stands-spec =
+    tie.close
+    (tie.spec
+    (λ c κs. search needs)
+    unnumbered
+    unopened
+    (λ c κs. search needs)
+    standardless
+    (λ c κs. search needs)
+    toleranceless
+    (λ c κs. search needs)
+    full
+    clear)

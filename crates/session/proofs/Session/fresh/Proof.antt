@@ -1,4 +1,4 @@
--- A fresh session holds the conditions that stand for none. Assumes nothing.
+-- A fresh session holds the conditions that stand for none, and tallies of 0 for each table. Assumes nothing.
 use borrow.Author.Needs.{needs}
 use Rattle.session.proofs.Valid.{valid-fresh}
 use Rattle.session.proofs.Session.fresh.Statement.{statement}
@@ -6,8 +6,9 @@ use Rattle.session.proofs.Session.fresh.Tie as tie
 
 returns : tie.Need-returns
 returns c =
-    let e = c .none .ensures .0 in
-    (rw e, rw e valid-fresh)
+    let e = c .before .none .ensures .0 in
+    let f = c .none2 .ensures in
+    (rw (e, f), rw (e, f) valid-fresh)
 
 pub fresh-spec : {M : Type 1} → statement M
-fresh-spec = tie.close (tie.spec (λ c κs. search needs) returns)
+fresh-spec = tie.close (tie.spec (λ c κs. search needs) (λ c κs. search needs) returns)

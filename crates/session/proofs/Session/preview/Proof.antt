@@ -21,7 +21,7 @@ returns : tie.Need-returns
 returns c =
     let t = told (c .before) in
     let s = t .before .before in
-    meets _ _ _ (s .pre) (look-seen (s .args .t1) (t .standing .ensures) (preview (now (s .args .readings))) (c .preview .ensures))
+    meets _ _ _ (s .pre) (look-seen (s .args .t1) (t .standing .ensures) (preview (s .args .table) (now (s .args .readings))) (c .preview .ensures))
 
 pub preview-spec : {M : Type 1} → statement M
 preview-spec = tie.close (tie.spec (λ c κs. search needs) preview-requires returns)

@@ -1,8 +1,9 @@
 -- What the trial's working out found decides the reply: refused with its cause, or its verdict tallied. Assumes nothing.
 use mathlib.Core.Path.{_∙_, ap}
+use mathlib.Core.List.{List}
 use denote.Ref.{now}
 use borrow.Author.Needs.{needs}
-use Rattle.rules.specs.declared.Tallies.{Tallies}
+use Rattle.tallies.specs.declared.Tallies.{Tallies}
 use Rattle.trials.specs.Tried.{trialOutcome}
 use Rattle.session.specs.Outcome.{tried}
 use Rattle.session.specs.Served.{withTallies}
@@ -28,7 +29,12 @@ refused c =
     let s = t .before .before in
     meets _ _ _ (s .pre)
     (c .refused .ensures
-    ∙ trial-found (s .args .t1) (t .standing .ensures) (now (s .args .readings)) (c .before .before .found .given .1) (found .tried .ensures))
+    ∙ trial-found (s .args .t1) (t .standing .ensures) (s .args .table) (now (s .args .readings)) (c .before .before .found .given .1) (found .tried .ensures))
+
+tallied-requires : tie.Need-tallied-requires
+tallied-requires c κs =
+    let found = c .before .before .before .before in
+    told (found .before) .before .before .pre .standing .tallies
 
 judged : tie.Need-returns-2
 judged c =
@@ -37,8 +43,9 @@ judged c =
     let t = told (found .before) in
     let s = t .before .before in
     meets _ _ _ (s .pre)
-    (ap (λ (n : Tallies). record { session = withTallies (s .args .t1) n; outcome = tried (trialOutcome (by .0 .0)) }) (c .tallied .ensures)
-    ∙ trial-found (s .args .t1) (t .standing .ensures) (now (s .args .readings)) (by .1) (found .tried .ensures))
+    (ap (λ (n : List Tallies). record { session = withTallies (s .args .t1) (record { sets = n }); outcome = tried (trialOutcome (by .0 .0)) })
+    (c .tallied .ensures)
+    ∙ trial-found (s .args .t1) (t .standing .ensures) (s .args .table) (now (s .args .readings)) (by .1) (found .tried .ensures))
 
 pub trial-spec : {M : Type 1} → statement M
 trial-spec =
@@ -50,5 +57,5 @@ trial-spec =
     (λ c κs. search needs)
     refused
     (λ c. search needs)
-    (λ c κs. search needs)
+    tallied-requires
     judged)

@@ -1,7 +1,7 @@
--- Each verdict raises its own tally, which fits since all three together are within the session's limit. Assumes nothing.
+-- Each verdict raises its own tally, which fits since all three together are within the limit of a table. Assumes nothing.
 use borrow.Author.Needs.{needs}
-use Rattle.rules.proofs.standing.tallied.Statement.{statement}
-use Rattle.rules.proofs.standing.tallied.Tie as tie
+use Rattle.tallies.proofs.raised.Statement.{statement}
+use Rattle.tallies.proofs.raised.Tie as tie
 
 returns : tie.Need-returns
 returns c = simp (c .before .enum-told .given .1)
@@ -12,8 +12,8 @@ returns-2 c = simp (c .before .enum-told2 .given .1)
 returns-3 : tie.Need-returns-3
 returns-3 c = simp (c .before .enum-told3 .given .1)
 
-pub tallied-spec : {M : Type 1} → statement M
-tallied-spec =
+pub raised-spec : {M : Type 1} → statement M
+raised-spec =
     tie.close
     (tie.spec
     (λ c. search needs)

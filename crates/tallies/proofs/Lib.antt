@@ -1,0 +1,3 @@
+pub mod ByTable
+pub mod Sets
+pub mod Orders
