@@ -76,30 +76,18 @@ unfolding unless
 either Clear Q f a h k = k refl
 either (Because c) Q f a h k = h c
 
--- two lists that are alike up to a check that holds end a call alike
-pub alike : {A : Type 0} (xs : List Check) (c : Cause) (ys zs : List Check) (f : Cause → A) (a b : A) →
-    unless (firstOf (xs ++ (check true c ∷ ys))) f a ≡ unless (firstOf (xs ++ (check true c ∷ zs))) f b
+-- two calls whose lists begin with a check that holds end alike
+pub fires-both : {A : Type 0} (c : Cause) (xs ys : List Check) (f : Cause → A) (a a′ : A) →
+    unless (firstOf (check true c ∷ xs)) f a ≡ unless (firstOf (check true c ∷ ys)) f a′
 unfolding firstOf unless
-alike [] c ys zs f a b = refl
-alike (x ∷ xs) c ys zs f a b = go (x .holds) (alike xs c ys zs f a b)
-  where
-    go : (t : Bool) → unless (firstOf (xs ++ (check true c ∷ ys))) f a ≡ unless (firstOf (xs ++ (check true c ∷ zs))) f b →
-        unless (cond t (Because (x .cause)) (firstOf (xs ++ (check true c ∷ ys)))) f a
-        ≡ unless (cond t (Because (x .cause)) (firstOf (xs ++ (check true c ∷ zs)))) f b
-    go true next = refl
-    go false next = next
+fires-both c xs ys f a a′ = refl
 
--- of checks that find nothing, one alone now holds
-pub only : (xs : List Check) (c : Cause) (ys : List Check) → firstOf (xs ++ (check false c ∷ ys)) ≡ Clear → firstOf (xs ++ (check true c ∷ ys)) ≡ Because c
+-- and two that end alike do so behind any check that both have
+pub behind : {A : Type 0} (b : Bool) (c : Cause) (xs ys : List Check) (f : Cause → A) (a a′ : A) →
+    unless (firstOf xs) f a ≡ unless (firstOf ys) f a′ → unless (firstOf (check b c ∷ xs)) f a ≡ unless (firstOf (check b c ∷ ys)) f a′
 unfolding firstOf
-only [] c ys e = refl
-only (x ∷ xs) c ys e = go (x .holds) (only xs c ys) e
-  where
-    go : (b : Bool) → (firstOf (xs ++ (check false c ∷ ys)) ≡ Clear → firstOf (xs ++ (check true c ∷ ys)) ≡ Because c) →
-        cond b (Because (x .cause)) (firstOf (xs ++ (check false c ∷ ys))) ≡ Clear →
-        cond b (Because (x .cause)) (firstOf (xs ++ (check true c ∷ ys))) ≡ Because c
-    go true next h = cc
-    go false next h = next h
+behind true c xs ys f a a′ e = unfold unless in refl
+behind false c xs ys f a a′ e = e
 
 -- the cause of some checks is that of a longer list, and where they find nothing the rest decides
 pub first-because : (xs ys : List Check) (c : Cause) → firstOf xs ≡ Because c → firstOf (xs ++ ys) ≡ Because c

@@ -1,6 +1,7 @@
 // What stands: the checks of a trial before its spectrum is looked at.
 ghost use mathlib.Core.Path.{_≡_};
 ghost use Rattle.causes.specs.Checks.{firstOf};
+ghost use Rattle.tallies.specs.ByTable.{isFull};
 ghost use Rattle.tallies.specs.Tallies.{tallySum, setOf, Within};
 ghost use Rattle.rules.specs.Standing.{standingChecks};
 ghost use Rattle.rules.specs.Rules.{hasStandard, hasTolerance};
@@ -39,7 +40,7 @@ pub fn stands(
     tallies: TableTallies,
 ) -> Checked
     requires { ⌜ Within (tallies .sets) ⌝ }
-    ensures { λ r. ⌜ r ≡ firstOf (standingChecks table opened (hasStandard standard) (hasTolerance tolerance) (tallySum (setOf (tallies .sets) table))) ⌝ }
+    ensures { λ r. ⌜ r ≡ firstOf (standingChecks table opened (hasStandard standard) (hasTolerance tolerance) (isFull (tallySum (setOf (tallies .sets) table)))) ⌝ }
 {
     if !is_table(table) {
         return Checked::Because(Cause::NoSuchTable);

@@ -16,7 +16,7 @@ use Rattle.trials.specs.Outcome.{TrialOutcome}
 use Rattle.trials.specs.Tried.{triedBy}
 use Rattle.session.specs.declared.Session.{Session}
 use Rattle.session.specs.Served.{standingOf, countedBy, Valid}
-use Rattle.session.specs.ByTable.{talliesFor, OthersKept, Trial, afterTrials, Reordered, NoneReached, NoneFull, AnyOrder}
+use Rattle.session.specs.ByTable.{talliesFor, OthersKept, Trial, afterTrials, Reordered, NoneReached, NoneFull, EndAlike, AnyOrder}
 use Rattle.session.proofs.Steps.{withSets, ownVerdict, stepped, not-lost}
 
 counted-keeps : (s : Session) (table : ℕ) (a : Numbered TrialOutcome) (another : ℕ) → (another ≡ table → ⊥) →
@@ -53,17 +53,17 @@ module _ (s : Session) where
   )
 
   module _ {ts us : List Trial} (v : Valid s) (r : Reordered ts us) where
-    ordered : NoneLost tableOf ownOf (s .tallies .sets) ts → afterTrials s ts .tallies ≡ afterTrials s us .tallies
+    ordered : NoneLost tableOf ownOf (s .tallies .sets) ts → EndAlike s ts us
     ordered k =
         ap (λ (sets : List Tallies). record { sets = sets })
         (after-all (s .tallies .sets) ts
         ∙ order-same tableOf ownOf (s .tallies .sets) (v .standing .tallies) r k
         ∙ sym (after-all (s .tallies .sets) us))
 
-    full-ordered : NoneFull s ts → afterTrials s ts .tallies ≡ afterTrials s us .tallies
+    full-ordered : NoneFull s ts → EndAlike s ts us
     full-ordered k = ordered (none-lost (s .tallies .sets) ts k)
 
-    reached-ordered : NoneReached s ts → afterTrials s ts .tallies ≡ afterTrials s us .tallies
+    reached-ordered : NoneReached s ts → EndAlike s ts us
     reached-ordered k =
         ordered
         (below-lost tableOf ownOf (s .tallies .sets) ts

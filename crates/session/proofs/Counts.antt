@@ -2,7 +2,7 @@
 -- nothing else changes them.
 -- Assumes nothing.
 use mathlib.Core.Path.{_≡_, refl, _∙_, ap}
-use mathlib.Core.Bool.{Bool, true, false, _&&_}
+use mathlib.Core.Bool.{Bool, true, false, _&&_, and-false}
 use mathlib.Core.List.{List, _∷_, map}
 use Prim.Native.Nat.{ℕ}
 use lib.Dec.{eqb}
@@ -20,10 +20,6 @@ use Rattle.session.specs.Call.{Call, open-tables, open-light, set-standa
 use Rattle.session.specs.Outcome.{VerdictCounts, Outcome, tried}
 use Rattle.session.specs.Ledger.{Held, none, held, Ledger, Entry, standardAt, countedIn, triedAt, countedAt, entered}
 use Rattle.session.specs.Claim.{Event, event, isPass, isFail, isLine, given, timesGiven, verdictsFor, verdictsIn}
-
-and-none : (b : Bool) → (b && false) ≡ false
-and-none true = refl
-and-none false = refl
 
 -- after a call the entry's ledger counts the call with those before it
 abbrev CountsAfter : List Event → Call → Entry → Type 0
@@ -73,7 +69,7 @@ module _ (before : List Event) (l : Ledger) (k : l .counts ≡ verdictsIn before
   at-trial table readings (accepted t) =
       ap (λ (n : List VerdictCounts). changedAt (countedIn (t .verdict)) n table) k
       ∙ one-more before table readings (t .colour) (t .e) (t .verdict)
-  at-trial table readings (refused cause) = kept _ _ (λ another p. and-none (eqb another table))
+  at-trial table readings (refused cause) = kept _ _ (λ another p. and-false (eqb another table))
 
   pub counts-next : (c : Call) → CountsAfter before c (entered l c)
   counts-next (open-tables t) = either _ (CountsAfter before (open-tables t)) _ _ (λ c. kept _ _ (λ table p. refl)) (λ e. kept _ _ (λ table p. refl))

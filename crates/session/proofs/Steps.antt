@@ -1,26 +1,24 @@
 -- One trial, seen from the tallies: what it comes to by itself depends on the settings alone, and is counted unless its table is full.
 -- Assumes nothing.
-use mathlib.Core.Path.{_≡_, refl, ap}
-use mathlib.Core.Bool.{Bool, true, false, not}
-use mathlib.Core.List.{List, [], _∷_, _++_}
+use mathlib.Core.Path.{_≡_, refl, ap, _∙_}
+use mathlib.Core.Bool.{Bool, true, false}
+use mathlib.Core.List.{List}
 use mathlib.Core.Option.{Option, none, some}
 use Prim.Native.Nat.{ℕ}
 use native.Mathlib.Omega.{arith}
-use Rattle.causes.specs.declared.Cause.the-variants.{NoConditions, NoStandard, NoTolerance, SessionFull, NoSuchTable}
+use Rattle.causes.specs.declared.Cause.the-variants.{SessionFull}
 use Rattle.causes.specs.declared.Checked.{Checked}
 use Rattle.causes.specs.declared.Checked.the-variants.{Clear, Because}
 use Rattle.causes.specs.Causes.{Numbered, accepted, refused, refusal, causeNumber}
-use Rattle.causes.specs.Checks.{Check, check, firstOf, unless}
-use Rattle.causes.proofs.Checks.{clear-head, clear-tail, either, only, refuses}
+use Rattle.causes.specs.Checks.{firstOf, unless}
+use Rattle.causes.proofs.Checks.{first-fires, first-passes, clear-head, clear-tail, either, refuses}
 use Rattle.cie.specs.declared.Verdict.{Verdict}
-use Rattle.conditions.specs.Checks.{spectrumChecks}
 use Rattle.conditions.specs.Measure.{colourUnder}
 use Rattle.tallies.specs.declared.Tallies.{Tallies}
-use Rattle.tallies.specs.ByTable.{isTable}
 use Rattle.tallies.proofs.Orders.{countedAs, countedUnless, isFullAt, KeptWhen}
 use Rattle.rules.specs.Rules.{hasStandard, hasTolerance, judgedOf}
 use Rattle.trials.specs.Outcome.{TrialOutcome}
-use Rattle.trials.specs.Checks.{frameLimit}
+use Rattle.trials.specs.Checks.{trialChecks}
 use Rattle.trials.specs.Tried.{judgedAs, triedBy}
 use Rattle.session.specs.declared.Session.{Session}
 use Rattle.session.specs.Call.{trial}
@@ -36,17 +34,9 @@ abbrev pub withSets : Session → List Tallies → Session
 withSets s sets = withTallies s (record { sets = sets })
 
 module _ (s : Session) (table : ℕ) (readings : List ℕ) where
-  -- the checks before that of a full table, and after it
-  abbrev sooner : List Check
-  sooner =
-      check (not (isTable table)) NoSuchTable
-      ∷ check (not (s .opened)) NoConditions
-      ∷ check (not (hasStandard (s .standard))) NoStandard
-      ∷ check (not (hasTolerance (s .tolerance))) NoTolerance
-      ∷ []
-
+  -- what the checks find, of a table that is full or not
   abbrev checksWhen : Bool → Checked
-  checksWhen full = firstOf (sooner ++ (check full SessionFull ∷ spectrumChecks frameLimit (s .conditions .rows) readings))
+  checksWhen full = firstOf (trialChecks table (s .opened) (hasStandard (s .standard)) (hasTolerance (s .tolerance)) full (s .conditions .rows) readings)
 
   abbrev answer : Numbered TrialOutcome
   answer = let colour = colourUnder (s .conditions) readings in judgedAs colour (judgedOf (s .standard) (s .tolerance) colour)
@@ -81,11 +71,21 @@ module _ (s : Session) (table : ℕ) (readings : List ℕ) where
   own-clear Clear a verdict e = refl
   own-clear (Because c) a verdict e = cc
 
+  full-because : checksWhen false ≡ Clear → checksWhen true ≡ Because SessionFull
+  full-because e =
+      let opened = clear-tail _ _ _ e in
+      let standard = clear-tail _ _ _ opened in
+      first-passes _ _ _ (clear-head _ _ _ e)
+      ∙ first-passes _ _ _ (clear-head _ _ _ opened)
+      ∙ first-passes _ _ _ (clear-head _ _ _ standard)
+      ∙ first-passes _ _ _ (clear-head _ _ _ (clear-tail _ _ _ standard))
+      ∙ first-fires _ _ _ refl
+
   refused-when : (full : Bool) (verdict : Verdict) → full ≡ true → ownVerdict ≡ some verdict →
       countedBy s table (foundWhen full) .outcome ≡ outcome.refused (causeNumber SessionFull)
   refused-when true verdict f e =
       ap (λ (a : Numbered TrialOutcome). countedBy s table a .outcome)
-      (refuses (checksWhen true) refusal answer SessionFull (only sooner SessionFull _ (own-clear (checksWhen false) answer verdict e)))
+      (refuses (checksWhen true) refusal answer SessionFull (full-because (own-clear (checksWhen false) answer verdict e)))
   refused-when false verdict f e = cc
 
   -- so where it is not refused as full, its verdict is not lost

@@ -1,13 +1,12 @@
 -- What the session finds of a trial is what the ledger works out, since prepared weights give the same sums as the tables. Assumes nothing.
 use mathlib.Core.Path.{_≡_, _∙_, ap}
-use mathlib.Core.Bool.{Bool, true, false, not}
-use mathlib.Core.List.{List, [], _∷_}
+use mathlib.Core.Bool.{Bool, true}
+use mathlib.Core.List.{List}
 use Prim.Native.Nat.{ℕ}
-use Rattle.causes.specs.declared.Cause.the-variants.{NoConditions, NoStandard, NoTolerance, NoSuchTable}
 use Rattle.causes.specs.declared.Checked.{Checked}
 use Rattle.causes.specs.Causes.{Numbered, accepted, refusal}
-use Rattle.causes.specs.Checks.{Check, check, firstOf, unless}
-use Rattle.causes.proofs.Checks.{alike}
+use Rattle.causes.specs.Checks.{firstOf, unless}
+use Rattle.causes.proofs.Checks.{fires-both, behind}
 use Rattle.cie.specs.declared.Colour.{Colour}
 use Rattle.cie.specs.declared.Space.{Space}
 use Rattle.cie.specs.declared.Verdict.{Verdict}
@@ -18,7 +17,7 @@ use Rattle.cie.specs.Verdict.{margin, verdictOf, difference}
 use Rattle.conditions.specs.Conditions.{conditionsOf}
 use Rattle.conditions.specs.Measure.{colourUnder}
 use Rattle.conditions.proofs.Dots.{sums-same}
-use Rattle.tallies.specs.ByTable.{isTable}
+use Rattle.tallies.specs.ByTable.{isFull}
 use Rattle.tallies.specs.Tallies.{tallySum, setOf}
 use Rattle.tallies.proofs.ByTable.{at-map}
 use Rattle.rules.specs.Rules.{toleranceOf, hasStandard, hasTolerance, judgedBy, judgedOf}
@@ -50,26 +49,21 @@ judging space units p q =
 count-same : (l : Ledger) (table : ℕ) → tallySum (setOf (sessionOf l .tallies .sets) table) ≡ countFor l table
 count-same l table = ap tallySum (at-map talliesOf noCounts (l .counts) table)
 
--- the number of the table is the first check
-abbrev tableCheck : ℕ → Check
-tableCheck table = check (not (isTable table)) NoSuchTable
-
--- what the session finds of a trial, whatever its table has counted, is what the ledger works out
-trying : (table count : ℕ) (readings : List ℕ) (t : Held Tables) (s : Held (List ℕ)) (o : Held Amount) →
+-- what the session finds of a trial, whether its table is full or not, is what the ledger works out
+trying : (table : ℕ) (full : Bool) (readings : List ℕ) (t : Held Tables) (s : Held (List ℕ)) (o : Held Amount) →
     let conditions = heldConditions t in
     let colour = colourUnder conditions readings in
     unless
-    (firstOf (trialChecks table (isHeld t) (hasStandard (heldStandard t s)) (hasTolerance (heldTolerance o)) count (conditions .rows) readings))
+    (firstOf (trialChecks table (isHeld t) (hasStandard (heldStandard t s)) (hasTolerance (heldTolerance o)) full (conditions .rows) readings))
     refusal
     (judgedAs colour (judgedOf (heldStandard t s) (heldTolerance o) colour))
-    ≡ unless (firstOf (trialChecks table (isHeld t) (isHeld s) (isHeld o) count (rowsInForce t) readings)) refusal (workedOut t s o readings)
-trying table count readings none s o = alike (tableCheck table ∷ []) NoConditions _ _ _ _ _
-trying table count readings (held t) none o = alike (tableCheck table ∷ check false NoConditions ∷ []) NoStandard _ _ _ _ _
-trying table count readings (held t) (held s) none =
-    alike (tableCheck table ∷ check false NoConditions ∷ check false NoStandard ∷ []) NoTolerance _ _ _ _ _
-trying table count readings (held t) (held s) (held a) =
+    ≡ unless (firstOf (trialChecks table (isHeld t) (isHeld s) (isHeld o) full (rowsInForce t) readings)) refusal (workedOut t s o readings)
+trying table full readings none s o = behind _ _ _ _ _ _ _ (fires-both _ _ _ _ _ _)
+trying table full readings (held t) none o = behind _ _ _ _ _ _ _ (behind _ _ _ _ _ _ _ (fires-both _ _ _ _ _ _))
+trying table full readings (held t) (held s) none = behind _ _ _ _ _ _ _ (behind _ _ _ _ _ _ _ (behind _ _ _ _ _ _ _ (fires-both _ _ _ _ _ _)))
+trying table full readings (held t) (held s) (held a) =
     let judge : Colour → Numbered TrialOutcome = λ q. judgedAs q (judgedBy (toleranceOf (a .space) (a .units)) (colourAt t s) q) in
-    let found : Bool → Checked = λ b. firstOf (trialChecks table true true b count (rowsAt (t .spacing)) readings) in
+    let found : Bool → Checked = λ b. firstOf (trialChecks table true true b full (rowsAt (t .spacing)) readings) in
     ap (λ (b : Bool). unless (found b) refusal (judge (colourUnder (conditionsOf t) readings))) (tolerant (a .space) (a .units))
     ∙ ap (λ (q : Numbered TrialOutcome). unless (found true) refusal q)
     (ap judge (colour-same t readings) ∙ judging (a .space) (a .units) (colourAt t s) (colourAt t readings))
@@ -78,10 +72,13 @@ pub tried-same : (l : Ledger) (table : ℕ) (readings : List ℕ) →
     triedBy (sessionOf l .conditions) (standingOf (sessionOf l)) table readings ≡ triedAt l table readings
 unfolding triedBy
 tried-same l table readings =
-    trying table (tallySum (setOf (sessionOf l .tallies .sets) table)) readings (l .conditions) (l .standard) (l .tolerance)
-    ∙ ap
+    ap
     (λ (n : ℕ).
-    unless (firstOf (trialChecks table (isHeld (l .conditions)) (isHeld (l .standard)) (isHeld (l .tolerance)) n (rowsInForce (l .conditions)) readings))
+    let s = sessionOf l in
+    let colour = colourUnder (s .conditions) readings in
+    unless
+    (firstOf (trialChecks table (s .opened) (hasStandard (s .standard)) (hasTolerance (s .tolerance)) (isFull n) (s .conditions .rows) readings))
     refusal
-    (workedOut (l .conditions) (l .standard) (l .tolerance) readings))
+    (judgedAs colour (judgedOf (s .standard) (s .tolerance) colour)))
     (count-same l table)
+    ∙ trying table (isFull (countFor l table)) readings (l .conditions) (l .standard) (l .tolerance)

@@ -50,13 +50,14 @@ abbrev pub NoneFull : Session → List Trial → Type 0
 NoneFull s [] = Unit
 NoneFull s (t ∷ ts) = (served s (trialCall t) .outcome ≡ refused (causeNumber SessionFull) → ⊥) × NoneFull (served s (trialCall t) .session) ts
 
--- "end in the same tallies": from a session that is fresh, or that calls returned or left; trials that are refused for any other cause may be
--- among them
+-- "end in the same tallies"
+abbrev pub EndAlike : Session → List Trial → List Trial → Type 0
+EndAlike s ts us = afterTrials s ts .tallies ≡ afterTrials s us .tallies
+
+-- from a session that is fresh, or that calls returned or left; trials that are refused for any other cause may be among them
 pub record AnyOrder : Type 0 where
-  pub none-reached : (s : Session) {ts us : List Trial} → Valid s → Reordered ts us → NoneReached s ts →
-      afterTrials s ts .tallies ≡ afterTrials s us .tallies
-  pub none-full : (s : Session) {ts us : List Trial} → Valid s → Reordered ts us → NoneFull s ts →
-      afterTrials s ts .tallies ≡ afterTrials s us .tallies
+  pub none-reached : (s : Session) {ts us : List Trial} → Valid s → Reordered ts us → NoneReached s ts → EndAlike s ts us
+  pub none-full : (s : Session) {ts us : List Trial} → Valid s → Reordered ts us → NoneFull s ts → EndAlike s ts us
 
 -- the proviso is needed: a session, and two trials whose order tells in the tallies
 pub record OrderTells : Type 0 where
@@ -64,4 +65,4 @@ pub record OrderTells : Type 0 where
   pub valid : Valid session
   pub one : Trial
   pub other : Trial
-  pub differ : afterTrials session (one ∷ other ∷ []) .tallies ≡ afterTrials session (other ∷ one ∷ []) .tallies → ⊥
+  pub differ : EndAlike session (one ∷ other ∷ []) (other ∷ one ∷ []) → ⊥

@@ -21,7 +21,7 @@ use Rattle.cie.specs.Lights.{lightTables}
 use Rattle.cie.specs.Colour.{colourAt}
 use Rattle.cie.specs.Verdict.{margin, verdictOf, difference}
 use Rattle.conditions.specs.Checks.{tableChecks, lightChecks}
-use Rattle.tallies.specs.ByTable.{tableCount, atTable, changedAt}
+use Rattle.tallies.specs.ByTable.{tableCount, isFull, atTable, changedAt}
 use Rattle.rules.specs.Standing.{toleranceChecks}
 use Rattle.trials.specs.Outcome.{Amount, TrialOutcome}
 use Rattle.trials.specs.Checks.{trialChecks}
@@ -113,8 +113,8 @@ workedOut (held t) (held standard) (held tolerance) readings = causes.accepted (
 abbrev pub triedAt : Ledger → ℕ → List ℕ → Numbered TrialOutcome
 triedAt l table readings =
     unless
-    (firstOf
-    (trialChecks table (isHeld (l .conditions)) (isHeld (l .standard)) (isHeld (l .tolerance)) (countFor l table) (rowsInForce (l .conditions)) readings))
+    (let full = isFull (countFor l table) in
+    firstOf (trialChecks table (isHeld (l .conditions)) (isHeld (l .standard)) (isHeld (l .tolerance)) full (rowsInForce (l .conditions)) readings))
     refusal
     (workedOut (l .conditions) (l .standard) (l .tolerance) readings)
 

@@ -1,8 +1,8 @@
 -- Laws of what tables have, whatever that is: a change of what one has, seen at each place. Assumes nothing.
 use mathlib.Core.Path.{_≡_, refl, sym, ap, _∙_}
-use mathlib.Core.Bool.{Bool, true, false, _&&_}
+use mathlib.Core.Bool.{Bool, true, false, and-eq-true-iff}
 use mathlib.Core.List.{List, [], _∷_, map}
-use Prim.Native.Nat.{ℕ, zero, suc, _+_, _-_, _≤_}
+use Prim.Native.Nat.{ℕ, zero, suc, _+_, _-_, _≤_, _<_}
 use native.Mathlib.Omega.{arith}
 use lib.Dec.{leb}
 use lib.ListN.{length, getD, set, drop, replicate, drop-of-length-le, List·getD-map, List·getD-eq-default}
@@ -10,26 +10,21 @@ use lib.Seq.{drop-cons}
 use borrow.Author.Tests.{le-leb, leb-true, leb-false}
 use Rattle.tallies.specs.ByTable.{tableCount, isTable, upFrom, tableNumbers, atTable, changedAt}
 
-and-true : (a b : Bool) → b ≡ true → (a && b) ≡ a
-and-true true b e = e
-and-true false b e = refl
-
-both-true : (a b : Bool) → (a && b) ≡ true → (a ≡ true) × (b ≡ true)
-both-true true b e = (refl, e)
-both-true false b e = (e, cc)
-
 pub table-from : (table : ℕ) → isTable table ≡ true → 1 ≤ table
-table-from table e = leb-true 1 table (both-true (leb 1 table) (leb table tableCount) e .0)
+table-from table e = leb-true 1 table (and-eq-true-iff (leb 1 table) (leb table tableCount) .0 e .0)
 
 pub table-to : (table : ℕ) → isTable table ≡ true → table ≤ tableCount
-table-to table e = leb-true table tableCount (both-true (leb 1 table) (leb table tableCount) e .1)
+table-to table e = leb-true table tableCount (and-eq-true-iff (leb 1 table) (leb table tableCount) .0 e .1)
+
+pub place-below : (table : ℕ) → isTable table ≡ true → table - 1 < tableCount
+place-below table e = omega (arith, table-from table e, table-to table e)
 
 past : (place : ℕ) → isTable (suc place) ≡ false → tableCount ≤ place
 past place e = go (leb (suc place) tableCount) refl
   where
     go : (t : Bool) → leb (suc place) tableCount ≡ t → tableCount ≤ place
     go true h =
-        let z : _≡_ {A = Bool} true false = sym (le-leb 1 (suc place) (omega arith)) ∙ sym (and-true _ _ h) ∙ e in
+        let z : _≡_ {A = Bool} true false = sym (and-eq-true-iff _ _ .1 (le-leb 1 (suc place) (omega arith), h)) ∙ e in
         let o : _≡_ {A = ℕ} 0 1 = cc in absurd (omega arith)
     go false h = omega (arith, leb-false (suc place) tableCount h)
 

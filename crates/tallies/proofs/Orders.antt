@@ -7,11 +7,10 @@ use mathlib.Core.Option.{Option, none, some}
 use Prim.Native.Nat.{ℕ, _≤_, _<_}
 use native.Mathlib.Nat.{le-trans}
 use native.Mathlib.Omega.{arith}
-use lib.Dec.{eqb}
 use borrow.Author.Tests.{eqb-true, eqb-false}
 use Rattle.cie.specs.declared.Verdict.{Verdict}
 use Rattle.tallies.specs.declared.Tallies.{Tallies}
-use Rattle.tallies.specs.ByTable.{tableLimit}
+use Rattle.tallies.specs.ByTable.{tableLimit, isFull}
 use Rattle.tallies.specs.Tallies.{talliedBy, talliedFor, Within}
 use Rattle.tallies.proofs.ByTable.{changed-order}
 use Rattle.tallies.proofs.Sets.{either-order, countAt, counted-grows, full-table, counted-own, within-counted}
@@ -26,7 +25,7 @@ abbrev pub countedUnless : Bool → List Tallies → ℕ → Option Verdict → 
 countedUnless full sets table own = cond full sets (countedAs sets table own)
 
 abbrev pub isFullAt : List Tallies → ℕ → Bool
-isFullAt sets table = eqb (countAt sets table) tableLimit
+isFullAt sets table = isFull (countAt sets table)
 
 as-order : (sets : List Tallies) (t u : ℕ) (a b : Option Verdict) → countedAs (countedAs sets t a) u b ≡ countedAs (countedAs sets u b) t a
 as-order sets t u none b = refl

@@ -3,7 +3,7 @@
 use mathlib.Core.Bool.{Bool, _&&_}
 use mathlib.Core.List.{List, [], _∷_}
 use Prim.Native.Nat.{ℕ, zero, suc}
-use lib.Dec.{leb}
+use lib.Dec.{leb, eqb}
 use lib.ListN.{getD}
 
 -- "Eight tables feed one frame"
@@ -25,6 +25,9 @@ tableNumbers = upFrom 1 tableCount
 -- "'Session full' now means that the named table's tallies sum to 100,000."
 abbrev pub tableLimit : ℕ
 tableLimit = 100000
+
+abbrev pub isFull : ℕ → Bool
+isFull count = eqb count tableLimit
 
 -- what a table has, of what tables 1, 2, .. have; any other number has what is said for none
 abbrev pub atTable : {A : Type 0} → A → List A → ℕ → A

@@ -1,8 +1,7 @@
 // Verdicts counted by inspection table: three tallies for each of the eight that feed the frame.
 ghost use mathlib.Core.Path.{_≡_};
 ghost use Prim.Native.Nat.{_≤_};
-ghost use lib.Dec.{eqb};
-ghost use Rattle.tallies.specs.ByTable.{isTable, tableLimit};
+ghost use Rattle.tallies.specs.ByTable.{isTable, tableLimit, isFull};
 ghost use Rattle.tallies.specs.Tallies.{noSets, tallySum, talliedBy, setOf, talliedFor, eachOf, Within};
 use cie::Verdict;
 
@@ -97,7 +96,7 @@ impl TableTallies {
     // Whether a table takes no more trials.
     pub fn is_full(self, table: u32) -> bool
         requires { ⌜ Within (self .sets) ⌝ }
-        ensures { λ r. ⌜ r ≡ eqb (tallySum (setOf (self .sets) table)) tableLimit ⌝ }
+        ensures { λ r. ⌜ r ≡ isFull (tallySum (setOf (self .sets) table)) ⌝ }
     {
         let t = self.of(table);
         t.passed + t.failed + t.line == TABLE_LIMIT

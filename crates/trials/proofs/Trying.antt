@@ -18,6 +18,7 @@ use Rattle.conditions.specs.declared.measure.Measured.the-variants.{Whole, Refu
 use Rattle.conditions.specs.Checks.{spectrumChecks}
 use Rattle.conditions.specs.Measure.{measureAnswer, measuredBy}
 use Rattle.conditions.proofs.Measuring.{measured-refused, measured-whole}
+use Rattle.tallies.specs.ByTable.{isFull}
 use Rattle.tallies.specs.Tallies.{tallySum, setOf}
 use Rattle.rules.specs.declared.Judged.{Judged}
 use Rattle.rules.specs.Standing.{standingChecks}
@@ -30,7 +31,7 @@ use Rattle.trials.specs.Tried.{judgedAs, triedBy}
 -- what must stand before a trial's spectrum is looked at
 abbrev standingIn : Standing → ℕ → List Check
 standingIn s table =
-    standingChecks table (s .opened) (hasStandard (s .standard)) (hasTolerance (s .tolerance)) (tallySum (setOf (s .tallies .sets) table))
+    standingChecks table (s .opened) (hasStandard (s .standard)) (hasTolerance (s .tolerance)) (isFull (tallySum (setOf (s .tallies .sets) table)))
 
 abbrev pub Stands : Standing → ℕ → Type 0
 Stands s table = firstOf (standingIn s table) ≡ Clear

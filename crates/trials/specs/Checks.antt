@@ -13,6 +13,6 @@ abbrev pub frameLimit : ℕ
 frameLimit = readingLimit
 
 -- 18 "checked first in a trial or preview"; "Trial (spectrum): 6, 7, 8, 10, 1, 2.", with the rows of the spacing in force
-abbrev pub trialChecks : ℕ → Bool → Bool → Bool → ℕ → ℕ → List ℕ → List Check
-trialChecks table opened standard tolerance count rows readings =
-    standingChecks table opened standard tolerance count ++ spectrumChecks frameLimit rows readings
+abbrev pub trialChecks : ℕ → Bool → Bool → Bool → Bool → ℕ → List ℕ → List Check
+trialChecks table opened standard tolerance full rows readings =
+    standingChecks table opened standard tolerance full ++ spectrumChecks frameLimit rows readings

@@ -13,6 +13,7 @@ use Rattle.conditions.specs.Measure.{colourUnder}
 use Rattle.rules.specs.declared.Difference.{Difference}
 use Rattle.rules.specs.declared.Judged.{Judged}
 use Rattle.rules.specs.declared.Judged.the-variants.{Without, By}
+use Rattle.tallies.specs.ByTable.{isFull}
 use Rattle.tallies.specs.Tallies.{tallySum, setOf, Within}
 use Rattle.rules.specs.Rules.{hasTolerance, hasStandard, SizedStandard, spaceOf, unitsOf, judgedOf}
 use Rattle.trials.specs.declared.Standing.{Standing}
@@ -46,8 +47,8 @@ judgedAs colour (By e verdict) = accepted (record { colour = colour; e = amountO
 unfoldable pub triedBy : Conditions → Standing → ℕ → List ℕ → Numbered TrialOutcome
 triedBy c s table readings =
     unless
-    (firstOf
-    (trialChecks table (s .opened) (hasStandard (s .standard)) (hasTolerance (s .tolerance)) (tallySum (setOf (s .tallies .sets) table)) (c .rows) readings))
+    (let full = isFull (tallySum (setOf (s .tallies .sets) table)) in
+    firstOf (trialChecks table (s .opened) (hasStandard (s .standard)) (hasTolerance (s .tolerance)) full (c .rows) readings))
     refusal
     (let colour = colourUnder c readings in judgedAs colour (judgedOf (s .standard) (s .tolerance) colour))
 

@@ -1,13 +1,12 @@
 -- `rules::standing::stands` meets its contract: its tests are the checks, in their order. Assumes nothing.
 use mathlib.Core.Path.{_≡_, sym, ap, _∙_}
 use mathlib.Core.Bool.{not}
-use mathlib.Core.List.{[], _∷_}
+use mathlib.Core.List.{List, [], _∷_}
 use borrow.Author.Needs.{needs}
-use lib.Dec.{eqb}
 use Rattle.causes.specs.declared.Cause.the-variants.{NoStandard, NoTolerance, SessionFull}
-use Rattle.causes.specs.Checks.{check, firstOf}
+use Rattle.causes.specs.Checks.{Check, check, firstOf}
 use Rattle.causes.proofs.Checks.{first-fires, first-passes, first-ends}
-use Rattle.tallies.specs.ByTable.{tableLimit}
+use Rattle.tallies.specs.ByTable.{isFull}
 use Rattle.tallies.specs.Tallies.{tallySum, setOf}
 use Rattle.rules.specs.Standing.{standingChecks}
 use Rattle.rules.specs.Rules.{hasStandard, hasTolerance}
@@ -22,21 +21,24 @@ unopened c =
     let table = c .before in
     sym (first-passes _ _ _ (ap not (sym (table .before .is-table .ensures)) ∙ table .if1 .left) ∙ first-fires _ _ _ (c .if2 .taken))
 
+-- the checks, and the last of them
+abbrev last : tie.Start → Check
+last s = check (isFull (tallySum (setOf (s .args .tallies .sets) (s .args .table)))) SessionFull
+
+abbrev asked : tie.Start → List Check
+asked s =
+    let a = s .args in
+    standingChecks (a .table) (a .opened) (hasStandard (a .standard)) (hasTolerance (a .tolerance)) (isFull (tallySum (setOf (a .tallies .sets) (a .table))))
+
 -- past the first two tests, and past all but the last
-past : (c : tie.Else2) → let a = c .before .before .before .args in
-    firstOf (standingChecks (a .table) (a .opened) (hasStandard (a .standard)) (hasTolerance (a .tolerance)) (tallySum (setOf (a .tallies .sets) (a .table))))
-    ≡ firstOf
-    (check (not (hasStandard (a .standard))) NoStandard
-    ∷ check (not (hasTolerance (a .tolerance))) NoTolerance
-    ∷ check (eqb (tallySum (setOf (a .tallies .sets) (a .table))) tableLimit) SessionFull
-    ∷ [])
+past : (c : tie.Else2) → let s = c .before .before .before in
+    firstOf (asked s)
+    ≡ firstOf (check (not (hasStandard (s .args .standard))) NoStandard ∷ check (not (hasTolerance (s .args .tolerance))) NoTolerance ∷ last s ∷ [])
 past c =
     let table = c .before in
     first-passes _ _ _ (ap not (sym (table .before .is-table .ensures)) ∙ table .if1 .left) ∙ first-passes _ _ _ (c .if2 .left)
 
-past-all : (c : tie.Else4) → let a = c .before .before .before .before .before .before .before .args in
-    firstOf (standingChecks (a .table) (a .opened) (hasStandard (a .standard)) (hasTolerance (a .tolerance)) (tallySum (setOf (a .tallies .sets) (a .table))))
-    ≡ firstOf (check (eqb (tallySum (setOf (a .tallies .sets) (a .table))) tableLimit) SessionFull ∷ [])
+past-all : (c : tie.Else4) → let s = c .before .before .before .before .before .before .before in firstOf (asked s) ≡ firstOf (last s ∷ [])
 past-all c =
     let standard = c .before .before in
     past (standard .before .before)

@@ -3,9 +3,8 @@ use mathlib.Core.Path.{ap}
 use Prim.Native.Nat.{_≤_}
 use native.Mathlib.Omega.{arith}
 use borrow.Author.Needs.{needs}
-use lib.Dec.{eqb}
 use Rattle.tallies.specs.declared.Tallies.{Tallies}
-use Rattle.tallies.specs.ByTable.{tableLimit}
+use Rattle.tallies.specs.ByTable.{tableLimit, isFull}
 use Rattle.tallies.specs.Tallies.{tallySum}
 use Rattle.tallies.proofs.TableTallies.is_full.Statement.{statement}
 use Rattle.tallies.proofs.TableTallies.is_full.Tie as tie
@@ -20,4 +19,4 @@ is-full-spec =
     (λ c κs. search needs)
     (λ c. omega (arith, within (c .before)))
     (λ c. omega (arith, within (c .before .before)))
-    (λ c. ap (λ (t : Tallies). eqb (tallySum t) tableLimit) (c .before .before .of .ensures)))
+    (λ c. ap (λ (t : Tallies). isFull (tallySum t)) (c .before .before .of .ensures)))

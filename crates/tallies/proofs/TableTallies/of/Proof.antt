@@ -1,12 +1,11 @@
 -- A table has the tallies that stand at its place, one below its number. Assumes nothing.
 use mathlib.Core.Path.{_≡_, sym, _∙_}
 use mathlib.Core.Bool.{true}
-use native.Mathlib.Omega.{arith}
 use borrow.Author.Needs.{needs}
 use borrow.Author.Tests.{not-true, not-false}
 use Rattle.tallies.specs.ByTable.{isTable}
 use Rattle.tallies.specs.Tallies.{noTallies}
-use Rattle.tallies.proofs.ByTable.{table-from, table-to, at-place, none-at}
+use Rattle.tallies.proofs.ByTable.{table-from, place-below, at-place, none-at}
 use Rattle.tallies.proofs.TableTallies.of.Statement.{statement}
 use Rattle.tallies.proofs.TableTallies.of.Tie as tie
 
@@ -22,15 +21,12 @@ named c = sym (c .before .is-table .ensures) ∙ not-false _ (c .if1 .left)
 sub-result : tie.Need-sub-result
 sub-result c = table-from _ (named (c .before))
 
-within : tie.Need-array-copy-out-result
-within c =
-    let table = c .before .before .before .args .table in
-    let n = named (c .before) in omega (arith, table-from table n, table-to table n)
-
 returns : tie.Need-returns-2
 returns c =
     let s = c .before .before .before .before .args in
     at-place noTallies (s .self .sets) (s .table) (table-from _ (named (c .before .before)))
 
 pub of-spec : {M : Type 1} → statement M
-of-spec = tie.close (tie.spec (λ c κs. search needs) unnamed sub-result (λ c. search needs) (λ c. search needs) within returns)
+of-spec =
+    tie.close
+    (tie.spec (λ c κs. search needs) unnamed sub-result (λ c. search needs) (λ c. search needs) (λ c. place-below _ (named (c .before))) returns)

@@ -1,14 +1,13 @@
 -- The set at the table's place is replaced by itself with one tally raised. Assumes nothing.
 use mathlib.Core.Path.{_≡_, sym, ap, _∙_}
 use mathlib.Core.Bool.{true}
-use Prim.Native.Nat.{_-_, _<_}
-use native.Mathlib.Omega.{arith}
+use Prim.Native.Nat.{_-_}
 use borrow.Author.Needs.{needs}
 use borrow.Author.Tests.{not-true, not-false}
 use lib.ListN.{set}
-use Rattle.tallies.specs.ByTable.{tableCount, isTable}
+use Rattle.tallies.specs.ByTable.{isTable}
 use Rattle.tallies.specs.Tallies.{noTallies, talliedBy}
-use Rattle.tallies.proofs.ByTable.{table-from, table-to, at-place, set-place, none-changed}
+use Rattle.tallies.proofs.ByTable.{table-from, place-below, at-place, set-place, none-changed}
 use Rattle.tallies.proofs.TableTallies.tallied.Statement.{statement}
 use Rattle.tallies.proofs.TableTallies.tallied.Tie as tie
 
@@ -25,11 +24,6 @@ named c = sym (c .before .is-table .ensures) ∙ not-false _ (c .if1 .left)
 
 sub-place : tie.Need-sub-place
 sub-place c = table-from _ (named (c .before))
-
-below : (c : tie.Else1) → c .before .before .args .table - 1 < tableCount
-below c =
-    let table = c .before .before .args .table in
-    let n = named c in omega (arith, table-from table n, table-to table n)
 
 raised-requires : tie.Need-raised-requires
 raised-requires c κs =
@@ -52,8 +46,8 @@ tallied-spec =
     sub-place
     (λ c. search needs)
     (λ c. search needs)
-    (λ c. below (c .before))
+    (λ c. place-below _ (named (c .before)))
     raised-requires
     (λ c. search needs)
-    (λ c. below (c .before .before .before))
+    (λ c. place-below _ (named (c .before .before .before)))
     returns)
