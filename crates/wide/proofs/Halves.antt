@@ -9,7 +9,7 @@ use borrow.Author.Tests.{le-leb, lt-leb}
 
 -- ── the product of two words by halves of 32 bits ──
 
-half-product : (x y : ℕ) → x < 2 ^ 32 → y < 2 ^ 32 → x * y ≤ 18446744065119617025
+pub half-product : (x y : ℕ) → x < 2 ^ 32 → y < 2 ^ 32 → x * y ≤ 18446744065119617025
 half-product x y h k = mul-le-mul {n₂ = 4294967295} {m₂ = 4294967295} (omega arith) (omega arith)
 
 -- no product of halves is above (2^32 − 1)²

@@ -1,25 +1,68 @@
 -- A search by halving ends at the last number that passes its test, and that is the root or the quotient rounded down. Assumes nothing.
-use mathlib.Core.Path.{_≡_, sym}
+use mathlib.Core.Path.{_≡_, sym, ap}
 use mathlib.Core.Bool.{Bool, true, false}
-use Prim.Native.Nat.{ℕ, suc, _+_, _*_, _/_, _≤_, _<_}
-use native.Mathlib.Nat.{div-eq-of-lt-le}
+use Prim.Native.Nat.{ℕ, zero, suc, _+_, _*_, _/_, _^_, _≤_, _<_}
+use native.Mathlib.Nat.{div-eq-of-lt-le, pow-suc}
+use native.Mathlib.Numerals.{add-one}
 use native.Mathlib.Omega.{arith}
 use lib.Dec.{leb, leb→le, nleb→lt}
+use lib.Pow.{pow-pos}
 use Rattle.wide.specs.Roots.{Last, squareRoot, cubeRoot}
 use Rattle.wide.proofs.Greatest.{squareRoot-is, cubeRoot-is}
 
--- the test holds at lo and fails at hi, which is not above top
-pub record Between (t : ℕ → Bool) (top lo hi : ℕ) : Type 0 where
-  pub order : lo < hi
-  pub within : hi ≤ top
+-- the test holds at lo and fails 2^turns above it, at top or below; half is half of 2^turns, and 0 where that is 1
+pub record Between (t : ℕ → Bool) (top lo half : ℕ) : Type 0 where
+  pub turns : ℕ
+  pub halved : half ≡ 2 ^ turns / 2
+  pub within : lo + 2 ^ turns ≤ top
   pub holds : t lo ≡ true
-  pub fails : t hi ≡ false
+  pub fails : t (lo + 2 ^ turns) ≡ false
 
--- where nothing is left between, lo is the last
-pub between-last : (t : ℕ → Bool) (top lo hi : ℕ) → Between t top lo hi → hi ≤ lo + 1 → Last t lo
-between-last t top lo hi b h =
-    let e : hi ≡ suc lo = omega arith in
-    record { passes = rw (b .holds) tt; stops = rw (rw e at (b .fails)) tt }
+-- with a turn left, half is a power of two, and the test fails twice half above lo
+record Turn (t : ℕ → Bool) (top lo half : ℕ) : Type 0 where
+  pub rest : ℕ
+  pub power : half ≡ 2 ^ rest
+  pub within : lo + half + half ≤ top
+  pub fails : t (lo + half + half) ≡ false
+
+-- what is between lo and lo + half, where half is a power of two
+half-left : {t : ℕ → Bool} {top lo half : ℕ} (n : ℕ) → half ≡ 2 ^ n → lo + half ≤ top → t lo ≡ true → t (lo + half) ≡ false → Between t top lo (half / 2)
+half-left n p w h f = record { turns = n; halved = ap (λ (x : ℕ). x / 2) p; within = rw p at w; holds = h; fails = rw p at f }
+
+module _ {t : ℕ → Bool} {top lo half : ℕ} (b : Between t top lo half) where
+  pub lo-below : lo < top
+  lo-below = omega (arith, b .within, pow-pos (b .turns))
+
+  -- where nothing is left between, lo is the last
+  pub between-last : half ≡ 0 → Last t lo
+  between-last none = go (b .turns) (b .halved) (b .fails)
+    where
+      go : (n : ℕ) → half ≡ 2 ^ n / 2 → t (lo + 2 ^ n) ≡ false → Last t lo
+      go zero e f = record { passes = rw (b .holds) tt; stops = rw (rw (add-one lo) at f) tt }
+      go (suc n) e f = absurd (omega (arith, pow-suc 2 n, pow-pos n))
+
+  module _ (more : 0 < half) where
+    turn : Turn t top lo half
+    turn = go (b .turns) (b .halved) (b .within) (b .fails)
+      where
+        go : (n : ℕ) → half ≡ 2 ^ n / 2 → lo + 2 ^ n ≤ top → t (lo + 2 ^ n) ≡ false → Turn t top lo half
+        go zero e w f = absurd (omega arith)
+        go (suc n) e w f =
+            let p : half ≡ 2 ^ n = omega (arith, pow-suc 2 n) in
+            let s : lo + 2 ^ suc n ≡ lo + half + half = omega (arith, pow-suc 2 n) in
+            record { rest = n; power = p; within = rw s at w; fails = rw s at f }
+
+    -- the number in the middle
+    pub mid-below : lo + half < top
+    mid-below = omega (arith, turn .within)
+
+    -- where it passes the test, what is above it is left
+    pub upper-half : t (lo + half) ≡ true → Between t top (lo + half) (half / 2)
+    upper-half h = half-left (turn .rest) (turn .power) (turn .within) h (turn .fails)
+
+    -- where it does not, what is below it is left
+    pub lower-half : t (lo + half) ≡ false → Between t top lo (half / 2)
+    lower-half h = half-left (turn .rest) (turn .power) (omega (arith, mid-below)) (b .holds) h
 
 -- q is at most n / d
 abbrev pub quotientBelow : (n d : ℕ) → ℕ → Bool

@@ -1,4 +1,7 @@
 // Numbers of two words, by value: product, sum, comparison, and the quotient rounded down.
+//
+// Quotients and roots are searched for by halving, in 32 bits. A search holds a number that is not above the result, and half of the way from
+// there to a number above it. The latter, 2^32 at first for a square root, is never formed.
 ghost use mathlib.Core.Path.{_≡_};
 ghost use Prim.Native.Nat.{_+_, _*_, _/_, _^_, _<_};
 ghost use lib.Dec.{leb};
@@ -14,8 +17,8 @@ pub struct Wide {
 
 const HALF: u64 = 4294967296;
 
-// What a quotient must be below: 2^26.
-const QUOTIENT_END: u32 = 67108864;
+// Half of what a quotient must be below: 2^25.
+const QUOTIENT_HALF: u32 = 33554432;
 
 // The product of two words, by halves of 32 bits, column by column.
 pub fn product(a: u64, b: u64) -> Wide
@@ -80,13 +83,12 @@ pub fn quotient(n: Wide, d: Wide) -> u32
     ensures { λ r. ⌜ (r ≡ value n / value d) × (r < 2 ^ 26) ⌝ }
 {
     let mut lo: u32 = 0;
-    let mut hi: u32 = QUOTIENT_END;
-    while lo + 1 < hi {
-        let mid = (lo + hi) / 2;
+    let mut half: u32 = QUOTIENT_HALF;
+    while half > 0 {
+        let mid = lo + half;
+        half = half / 2;
         if at_most(times(mid as u64, d), n) {
             lo = mid;
-        } else {
-            hi = mid;
         }
     }
     lo

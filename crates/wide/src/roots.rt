@@ -6,32 +6,43 @@ ghost use Rattle.wide.specs.Roots.{squareRoot, cubeRoot};
 ghost use Rattle.wide.specs.Words.{value};
 use crate::Wide;
 
+// Half of what the square root of a word must be below: 2^31.
+const SQUARE_ROOT_HALF: u32 = 2147483648;
+
+// Half of what a cube root must be below: 2^20. The cube of 2^21 is a word.
+const CUBE_ROOT_HALF: u32 = 1048576;
+
+// Whether p² is at most n.
+fn square_at_most(p: u32, n: u64) -> bool
+    ensures { λ r. ⌜ r ≡ leb (p * p) n ⌝ }
+{
+    let q = p as u64;
+    q * q <= n
+}
+
 // The square root of n, down.
 pub fn square_root(n: u64) -> u32
     ensures { λ r. ⌜ r ≡ squareRoot n ⌝ }
 {
-    let mut lo: u64 = 0;
-    let mut hi: u64 = 4294967296;
-    while lo + 1 < hi {
-        let mid = (lo + hi) / 2;
-        if mid * mid <= n {
+    let mut lo: u32 = 0;
+    let mut half: u32 = SQUARE_ROOT_HALF;
+    while half > 0 {
+        let mid = lo + half;
+        half = half / 2;
+        if square_at_most(mid, n) {
             lo = mid;
-        } else {
-            hi = mid;
         }
     }
-    lo as u32
+    lo
 }
 
-// What a cube root must be below: 2^21, whose cube is a word.
-const ROOT_END: u64 = 2097152;
-
 // Whether p³ × d is at most the target.
-fn cube_at_most(p: u64, d: u64, target: Wide) -> bool
+fn cube_at_most(p: u32, d: u64, target: Wide) -> bool
     requires { ⌜ p ≤ 2 ^ 21 ⌝ }
     ensures { λ r. ⌜ r ≡ leb (p * p * p * d) (value target) ⌝ }
 {
-    crate::at_most(crate::product(p * p * p, d), target)
+    let q = p as u64;
+    crate::at_most(crate::product(q * q * q, d), target)
 }
 
 // k times the cube root of n / d, down.
@@ -40,15 +51,14 @@ pub fn cube_root(k: u64, n: u64, d: u64) -> u32
     ensures { λ r. ⌜ r ≡ cubeRoot k n d ⌝ }
 {
     let target = crate::product(k * k * k, n);
-    let mut lo: u64 = 0;
-    let mut hi: u64 = ROOT_END;
-    while lo + 1 < hi {
-        let mid = (lo + hi) / 2;
+    let mut lo: u32 = 0;
+    let mut half: u32 = CUBE_ROOT_HALF;
+    while half > 0 {
+        let mid = lo + half;
+        half = half / 2;
         if cube_at_most(mid, d, target) {
             lo = mid;
-        } else {
-            hi = mid;
         }
     }
-    lo as u32
+    lo
 }
