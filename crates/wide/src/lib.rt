@@ -15,10 +15,11 @@ pub struct Wide {
     pub lo: u64,
 }
 
+// A word has two halves, each below 2^32.
 const HALF: u64 = 4294967296;
 
-// Half of what a quotient must be below: 2^25.
-const QUOTIENT_HALF: u32 = 33554432;
+// The middle of what a quotient may be, which is below 2^26.
+const MIDDLE_QUOTIENT: u32 = 33554432;
 
 // The product of two words, by halves of 32 bits, column by column.
 pub fn product(a: u64, b: u64) -> Wide
@@ -83,7 +84,7 @@ pub fn quotient(n: Wide, d: Wide) -> u32
     ensures { λ r. ⌜ (r ≡ value n / value d) × (r < 2 ^ 26) ⌝ }
 {
     let mut lo: u32 = 0;
-    let mut half: u32 = QUOTIENT_HALF;
+    let mut half: u32 = MIDDLE_QUOTIENT;
     while half > 0 {
         let mid = lo + half;
         half = half / 2;

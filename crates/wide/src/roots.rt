@@ -6,11 +6,11 @@ ghost use Rattle.wide.specs.Roots.{squareRoot, cubeRoot};
 ghost use Rattle.wide.specs.Words.{value};
 use crate::Wide;
 
-// Half of what the square root of a word must be below: 2^31.
-const SQUARE_ROOT_HALF: u32 = 2147483648;
+// The middle of what the square root of a word may be, which is below 2^32.
+const MIDDLE_SQUARE_ROOT: u32 = 2147483648;
 
-// Half of what a cube root must be below: 2^20. The cube of 2^21 is a word.
-const CUBE_ROOT_HALF: u32 = 1048576;
+// The middle of what a cube root may be, which is below 2^21, whose cube is a word.
+const MIDDLE_CUBE_ROOT: u32 = 1048576;
 
 // Whether p² is at most n.
 fn square_at_most(p: u32, n: u64) -> bool
@@ -25,7 +25,7 @@ pub fn square_root(n: u64) -> u32
     ensures { λ r. ⌜ r ≡ squareRoot n ⌝ }
 {
     let mut lo: u32 = 0;
-    let mut half: u32 = SQUARE_ROOT_HALF;
+    let mut half: u32 = MIDDLE_SQUARE_ROOT;
     while half > 0 {
         let mid = lo + half;
         half = half / 2;
@@ -52,7 +52,7 @@ pub fn cube_root(k: u64, n: u64, d: u64) -> u32
 {
     let target = crate::product(k * k * k, n);
     let mut lo: u32 = 0;
-    let mut half: u32 = CUBE_ROOT_HALF;
+    let mut half: u32 = MIDDLE_CUBE_ROOT;
     while half > 0 {
         let mid = lo + half;
         half = half / 2;
