@@ -1,4 +1,5 @@
-/* The float program: a trial with doubles, by the formulas of 000 and 002. */
+/* The float program: a trial with doubles, by the formulas of 000 and 002
+ * with the constants of CIE 15:2004. */
 
 #include <math.h>
 
@@ -28,7 +29,7 @@ void float_prepare(struct float_conditions *to, const double illuminant[ROWS],
 
 static double step(double ratio)
 {
-    return ratio > 0.008856 ? cbrt(ratio) : 7.787 * ratio + 16.0 / 116;
+    return ratio > 216.0 / 24389 ? cbrt(ratio) : 841.0 / 108 * ratio + 16.0 / 116;
 }
 
 void float_colour(struct float_colour *to, const struct float_conditions *by,
@@ -41,14 +42,14 @@ void float_colour(struct float_colour *to, const struct float_conditions *by,
         Y += reading * by->y[row];
         Z += reading * by->z[row];
     }
-    double sum = X + Y + Z, below = X + 15 * Y + 3 * Z, ratio = Y / by->yn;
-    double fx = step(X / by->xn), fy = step(ratio), fz = step(Z / by->zn);
+    double sum = X + Y + Z, below = X + 15 * Y + 3 * Z;
+    double fx = step(X / by->xn), fy = step(Y / by->yn), fz = step(Z / by->zn);
     to->X = X;
     to->Y = Y;
     to->Z = Z;
     to->x = sum > 0 ? X / sum : 0;
     to->y = sum > 0 ? Y / sum : 0;
-    to->L = ratio > 0.008856 ? 116 * fy - 16 : 903.3 * ratio;
+    to->L = 116 * fy - 16;
     to->a = 500 * (fx - fy);
     to->b = 200 * (fy - fz);
     to->u = below > 0 ? 13 * to->L * (4 * X / below - by->un) : 0;

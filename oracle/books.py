@@ -3,9 +3,11 @@
 from itertools import product
 
 import book
+import listing
 from book import ENTRY, HEAD, SHADE_LIMIT
 from chance import Chance
 from lines import OTHER, any_spectrum
+from near_limit import any_near
 from tables import LENGTHS
 
 LAST_SHADE = 2**16 - 1
@@ -34,7 +36,11 @@ def made(chance, numbers, *spacings):
 
 
 def whole_book(chance, spacing):
-    return made(chance, rising_numbers(chance, chance.pick((0, 1, 2, 5, 20, 200))), spacing)
+    """Now and then a shade has a sum near the limit of f, under the light of the listing."""
+    numbers = rising_numbers(chance, chance.pick((0, 1, 2, 5, 20, 200)))
+    return book.book_bytes([
+        (number, any_near(chance, listing.LIGHT, spacing) if chance.one_in(20)
+         else any_spectrum(chance, spacing)) for number in numbers])
 
 
 def books_of_note():

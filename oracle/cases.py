@@ -1,23 +1,28 @@
 """The stored cases, made anew from a fixed seed: a dictionary of path (from the root) to bytes."""
 
+from itertools import product
+
 import book
 import host
 import listing
 import replay
 from chance import Chance
 from lines import any_spectrum, changed, flat
+from near_limit import any_near, each_near
 from script import script
-from tables import LENGTHS
+from tables import LENGTHS, LIGHTS
 
 SEED = 1931
 HOST_CASES = "oracle/host_cases.txt"
 
 
 def stored_book(chance):
-    """Some twenty shades: extremes of number and reading, and lots of every kind."""
+    """Some thirty shades: extremes of number and reading, lots of every kind, and sums near the
+    limit of f."""
     spectra = [flat(0), flat(20_000), flat(1), flat(1_250), flat(88), flat(89), flat(10_000)]
     spectra += [changed(flat(0), 0, 20_000), changed(flat(20_000), 80, 0)]
     spectra += [any_spectrum(chance) for _ in range(11)]
+    spectra += each_near(Chance(0), listing.LIGHT, 5)
     numbers = [1, 2, 7, 255, 256, *(300 + 17 * place for place in range(len(spectra) - 7)),
                65_534, 65_535]
     return book.book_bytes(list(zip(numbers, spectra)))
@@ -41,6 +46,12 @@ def host_case(chance):
     return light, data, chance.bytes(length)
 
 
+def host_case_near(chance):
+    """A good call, with a sum near the limit of f."""
+    light, spacing = chance.pick((1, 2)), chance.pick((5, 10))
+    return light, spectrum_bytes(any_near(chance, light, spacing)), chance.bytes(20)
+
+
 def host_faults(chance, data):
     """A spectrum's bytes with the light, the last reading and the buffer right and wrong in all
     eight ways."""
@@ -58,7 +69,7 @@ def host_lengths(chance):
 
 def host_cases(chance):
     """At each spacing the light, the length, the reading and the buffer wrong in all sixteen ways,
-    then others."""
+    then others, then sums near the limit of f."""
     for spacing in LENGTHS:
         data = spectrum_bytes(flat(20_000, spacing))
         yield from host_faults(chance, data)
@@ -68,6 +79,9 @@ def host_cases(chance):
                 yield light, spectrum_bytes(flat(entry, spacing)), chance.bytes(20)
     for _ in range(80):
         yield host_case(chance)
+    for light, spacing in product(LIGHTS, LENGTHS):
+        for spectrum in each_near(chance, light, spacing):
+            yield light, spectrum_bytes(spectrum), chance.bytes(20)
 
 
 def host_text(cases):

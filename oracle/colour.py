@@ -40,24 +40,28 @@ def conditions(spacing, illuminant, observer):
     return Conditions(spacing, tuple(illuminant), tuple(map(tuple, observer)), white)
 
 
-def above_knee(n, d):
-    """n/d > 0.008856."""
-    return n * 1_000_000 > 8_856 * d
+# The constants of f and L* are those of CIE 15:2004.
+
+def above_limit(n, d):
+    """n/d > 24/116 cubed, which is 216/24389."""
+    return n * 116**3 > 24**3 * d
 
 
 def f_step(n, d, scale):
     """scale x f(n/d), down."""
-    if above_knee(n, d):
+    if above_limit(n, d):
         return cube_root_down(scale**3 * n // d)
-    # 7.787 n/d + 16/116, over the common denominator 116,000 d
-    return scale * (7_787 * 116 * n + 16_000 * d) // (116_000 * d)
+    # 841/108 n/d + 16/116, over the common denominator 108 x 116 d
+    return scale * (841 * 116 * n + 16 * 108 * d) // (108 * 116 * d)
 
 
 def lightness(n, d, times=1):
-    """times x 10,000 x L*, down."""
-    if above_knee(n, d):
+    """times x 10,000 x L*, down. L* = 116 f - 16, worked out from n/d and not from f_step, so that
+    a slip there does not pass on to L."""
+    if above_limit(n, d):
         return cube_root_down((times * 1_160_000) ** 3 * n // d) - times * 160_000
-    return times * 9_033_000 * n // d
+    # 116 x 841/108 is 24389/27
+    return times * 10_000 * 24_389 * n // (27 * d)
 
 
 def uv_denominator(X, Y, Z):

@@ -8,7 +8,8 @@ import records
 from chance import Chance
 from expect import Difference, expect
 from full_session import FullSession
-from ledger import VERDICTS, Preview
+from ledger import INSPECTION_TABLES, VERDICTS, Preview
+from tables import LENGTHS
 
 
 def compare_answers(name, steps, got):
@@ -40,7 +41,21 @@ def compare_lists(built, seed, count):
         lists[name] = made.steps
         verdicts.update(made.judged)
         previews += sum(isinstance(step.result, Preview) for step in made.steps)
-    return lists, f"{fresh.told(verdicts)}; previews among them {previews}"
+    return lists, f"{told(verdicts)}; previews among them {previews}"
+
+
+def told(judged):
+    """How often each verdict came, at each spacing and at each inspection table."""
+    said = []
+    for verdict in VERDICTS:
+        at_spacing, at_number = Counter(), Counter()
+        for (given, spacing, table_number), times in judged.items():
+            at_spacing[spacing] += times * (given == verdict)
+            at_number[table_number] += times * (given == verdict)
+        spacings = ", ".join(f"{at_spacing[spacing]} at {spacing} nm" for spacing in LENGTHS)
+        numbers = " ".join(str(at_number[number]) for number in INSPECTION_TABLES)
+        said.append(f"{verdict} {spacings}, by table {numbers}")
+    return "; ".join(said)
 
 
 def compare_orders(built, seed, count):

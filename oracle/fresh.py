@@ -6,12 +6,13 @@ import exact
 from chance import Chance
 from colour import colour, difference
 from inspection import old_trials
-from ledger import GUARD, INSPECTION_TABLES, VERDICTS, Ledger, Preview, Trial
+from ledger import GUARD, INSPECTION_TABLES, Ledger, Preview, Trial
 from lines import (
     NO_SUCH_TABLES, OTHER, REPORT, TOO_LARGE, UNKNOWN_SPACINGS, any_spectrum, changed,
     few_rows_tables, full_tables, largest_tables, light, near_spectrum, opening, preview,
     smooth_spectrum, standard, tolerance, trial,
 )
+from near_limit import near_the_limit
 from published import flat, three_rows
 from replay import Step, answer, at_table
 from spacings import old_openings
@@ -155,11 +156,22 @@ class CallList:
             return self.enter_standard()
         spectrum = near_spectrum(self.chance, held.standard)
         for _ in range(self.chance.between(1, 4)):
-            self.tolerance_near(spectrum)
-            table_number = self.table_number()
-            if self.chance.one_in(2):
-                self.say(preview(table_number, spectrum))
-            self.say(trial(table_number, spectrum))
+            self.judge(spectrum)
+
+    def judge_at_the_limit(self):
+        """Spectra with sums at the limit of f or around it, judged by one of them."""
+        opened, one, *others = near_the_limit(self.chance)
+        self.say(opened)
+        self.say(standard(one))
+        for spectrum in others:
+            self.judge(spectrum)
+
+    def judge(self, spectrum):
+        self.tolerance_near(spectrum)
+        table_number = self.table_number()
+        if self.chance.one_in(2):
+            self.say(preview(table_number, spectrum))
+        self.say(trial(table_number, spectrum))
 
     def tolerance_near(self, spectrum):
         """At an edge of the guard of the spectrum's difference."""
@@ -189,8 +201,8 @@ UNREADABLE = unreadable() + old_openings() + old_trials()
 MOVES = (
     [CallList.open_light] * 3 + [CallList.open_tables] * 2 + [CallList.enter_standard] * 5
     + [CallList.enter_tolerance] * 4 + [CallList.enter_trial] * 10 + [CallList.look] * 5
-    + [CallList.judge_at_the_guard] * 10 + [CallList.say_report] * 2
-    + [CallList.say_unreadable] + [CallList.damage_a_line]
+    + [CallList.judge_at_the_guard] * 10 + [CallList.judge_at_the_limit] * 2
+    + [CallList.say_report] * 2 + [CallList.say_unreadable] + [CallList.damage_a_line]
 )
 
 
@@ -227,17 +239,3 @@ def reordered(seed):
               for _ in range(40)]
     orders = trials, trials[::-1], chance.shuffled(trials)
     return [written_list(b"\n".join([*made.lines, *order, REPORT])) for order in orders]
-
-
-def told(judged):
-    """How often each verdict came, at each spacing and at each inspection table."""
-    said = []
-    for verdict in VERDICTS:
-        at_spacing, at_number = Counter(), Counter()
-        for (given, spacing, table_number), times in judged.items():
-            at_spacing[spacing] += times * (given == verdict)
-            at_number[table_number] += times * (given == verdict)
-        spacings = ", ".join(f"{at_spacing[spacing]} at {spacing} nm" for spacing in LENGTHS)
-        numbers = " ".join(str(at_number[number]) for number in INSPECTION_TABLES)
-        said.append(f"{verdict} {spacings}, by table {numbers}")
-    return "; ".join(said)

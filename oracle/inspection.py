@@ -11,7 +11,7 @@ from lines import (
 )
 from published import flat
 
-READINGS = {"pass": 50, "fail": 60, "line": 51}  # E is 0, 9033 and 903, of flat spectra
+READINGS = {"pass": 50, "fail": 60, "line": 51}  # E is 0, 9033 and 904, of flat spectra
 
 
 def settings(spacing):

@@ -1,6 +1,7 @@
 """Lines of a replay script, and spectra and tables to fill them."""
 
-from ledger import INSPECTION_TABLES
+from colour import colour, difference
+from ledger import GUARD, INSPECTION_TABLES
 from published import filled, flat
 from tables import LENGTHS
 
@@ -69,6 +70,23 @@ def seen_by_turns(*spectra):
 def seen_nowhere(*spectra, numbers=(0, 9, 2**32 + 1)):
     """Each spectrum previewed and tried at every number, where there is no inspection table."""
     return [line for number in numbers for line in seen_at(number, *spectra)]
+
+
+def guard_amounts(space, E):
+    """Tolerances at and around both edges of the guard, and in between."""
+    g = GUARD[space]
+    around = {E + g + 1, E + g, E + g - 1, E, E - g + 1, E - g, E - g - 1}
+    return sorted(amount for amount in around if 0 <= amount <= 1_000_000)
+
+
+def guard_lines(under, one, other, spaces=("lab", "luv")):
+    """A preview and a trial at each of those tolerances."""
+    said = []
+    for space in spaces:
+        E = difference(space, colour(one, under), colour(other, under))
+        for place, amount in enumerate(guard_amounts(space, E)):
+            said += [tolerance(space, amount), *seen_at(by_turns(place), other)]
+    return said
 
 
 def changed(entries, at, entry):

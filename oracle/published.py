@@ -1,4 +1,5 @@
-"""The printed figures: 002's tables, 000's equal-energy point, document 01's marked examples.
+"""The printed figures: 002's tables, 000's equal-energy point, and document 01's marked examples,
+as document 02 has them for the constants of CIE 15:2004.
 
 The tables are compared through a session: rows one, two and three carry x, y and z alone, so a
 reading is a ratio in 1/10,000, and with Z at its white b gives the f step of Y.
@@ -13,6 +14,7 @@ from tables import LENGTHS, LIGHTS, OBSERVER, light_tables
 HERE = Path(__file__).parent
 
 # Entries that disagree with 002's own formulas, by the ratio in 1/1,000: printed and right.
+# No entry differs because the constants are those of CIE 15:2004 and no longer 002's.
 LIGHTNESS_MISPRINTS = {101: (3302, 3802), 755: (8968, 8963), 784: (9196, 9096), 863: (9441, 9444)}
 ROOT_MISPRINTS = {6: (1817, 1847), 48: (3631, 3634), 870: (9516, 9546)}
 
@@ -111,16 +113,24 @@ def check_whites():
 
 
 def check_marked_examples():
-    steps = {(0, 1): 137931, (8856, 10**6): 206892, (8857, 10**6): 206900,
+    steps = {(0, 1): 137931, (8856, 10**6): 206893, (8857, 10**6): 206900,
              (1, 8): 500000, (2, 1): 1259921}
     for ratio, step in steps.items():
         assert f_step(*ratio, 1_000_000) == step, ratio
-    lightnesses = {(1, 1000): 9033, (8856, 10**6): 79996, (8857, 10**6): 80004,
-                   (1, 1): 1000000, (2, 1): 1301508}
+    lightnesses = {(1, 1000): 9032, (8856, 10**6): 79995, (216, 24389): 80000,
+                   (8857, 10**6): 80004, (1, 1): 1000000, (2, 1): 1301508}
     for ratio, L in lightnesses.items():
         assert lightness(*ratio) == L, ratio
     for spacing in LENGTHS:
         check_three_rows(spacing)
+
+
+def check_lightness_by_f():
+    """L* is 116 f - 16 on both sides of the limit: the two are worked out apart, and agree."""
+    fine = 10**9
+    for n in range(500):
+        by_f = 116 * f_step(n, 24_389, 10_000 * fine) - 160_000 * fine
+        assert 0 <= lightness(n, 24_389, fine) - by_f < 116, n
 
 
 def check_three_rows(spacing):
@@ -140,5 +150,6 @@ def check_three_rows(spacing):
 
 def check_all():
     check_marked_examples()
+    check_lightness_by_f()
     check_whites()
     check_printed_tables()

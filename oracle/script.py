@@ -2,17 +2,17 @@
 
 from functools import partial
 
-from colour import colour, difference
 from inspection import (
     each_tally, each_verdict, no_such_table, old_trials, previews_not_counted, refused_not_counted,
     reordered,
 )
-from ledger import GUARD, built_in, from_tables
+from ledger import built_in, from_tables
+from limit import around_the_limit
 from lines import (
     NO_SUCH_TABLES, OTHER, REPORT, TOO_LARGE, any_spectrum, by_turns, changed, few_rows_tables,
-    full_tables, largest_tables, light, millionths_spectrum, millionths_tables, near_spectrum,
-    opening, preview, seen_at, seen_by_turns, seen_nowhere, smooth_spectrum, standard, tolerance,
-    trial,
+    full_tables, guard_lines, largest_tables, light, millionths_spectrum, millionths_tables,
+    near_spectrum, opening, preview, seen_at, seen_by_turns, seen_nowhere, smooth_spectrum,
+    standard, tolerance, trial,
 )
 from published import (
     EQUAL_ENERGY_TABLES, THREE_ROWS, dark_between_tables, filled, flat, ratio_spectrum, three_rows,
@@ -24,23 +24,6 @@ from tables import LENGTHS, LIGHTS, light_tables
 from unreadable import unreadable
 
 SHORT_AND_BRIGHT = flat(20_001)[1:]  # at both spacings
-
-
-def guard_amounts(space, E):
-    """Tolerances at and around both edges of the guard, and in between."""
-    g = GUARD[space]
-    around = {E + g + 1, E + g, E + g - 1, E, E - g + 1, E - g, E - g - 1}
-    return sorted(amount for amount in around if 0 <= amount <= 1_000_000)
-
-
-def guard_lines(under, one, other):
-    """A preview and a trial at each of those tolerances, in both spaces."""
-    said = []
-    for space in ("lab", "luv"):
-        E = difference(space, colour(one, under), colour(other, under))
-        for place, amount in enumerate(guard_amounts(space, E)):
-            said += [tolerance(space, amount), *seen_at(by_turns(place), other)]
-    return said
 
 
 def nothing_opened():
@@ -238,7 +221,8 @@ def script(chance):
         *left_in_force(5), *left_in_force(10), *every_length(5), *every_length(10),
         *changes(chance), *previews_between_trials(),
         *edge_tables(chance, 5), *edge_tables(chance, 10), *marked_examples(5),
-        *marked_examples(10), *whites(), *printed_tables(), *lots(chance),
+        *marked_examples(10), *around_the_limit(5), *around_the_limit(10), *whites(),
+        *printed_tables(), *lots(chance),
         *old_trials(), *old_openings(), *unreadable(), REPORT,
     ]
     return b"\n".join(said)

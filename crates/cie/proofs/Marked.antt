@@ -1,4 +1,5 @@
--- The marked examples of document 01, its four groups evaluated on the definitions in one sweep. Assumes nothing.
+-- The marked examples of document 01, its four groups with the figures of document 02, Job 5, evaluated on the definitions in one sweep.
+-- Assumes nothing.
 use mathlib.Core.Path.{_≡_, refl}
 use mathlib.Core.List.{List, [], _∷_}
 use Prim.Native.Nat.{ℕ}
@@ -41,6 +42,10 @@ E = labDifference (colour (replicate 81 1250)) (colour (replicate 81 270)) .0
 abbrev L : ℕ → ℕ → ℕ
 L N D = lAt 1 (record { x = D; y = D; z = D }) (record { x = N; y = N; z = N })
 
+-- and of our own: a ratio below the limit and one above it, where the other piece of f would give 206895 and 206899
+abbrev beside : List Value
+beside = count (stepAt 1 8431 951969) ∷ count (stepAt 1 3338 376887) ∷ []
+
 pub sweep : List Value
 sweep =
     count (stepAt 1 0 1)
@@ -50,6 +55,7 @@ sweep =
     ∷ count (stepAt 1 2 1)
     ∷ count (L 1 1000)
     ∷ count (L 8856 1000000)
+    ∷ count (L 216 24389)
     ∷ count (L 8857 1000000)
     ∷ count (L 1 1)
     ∷ count (L 2 1)
@@ -65,17 +71,18 @@ sweep =
     ∷ verdict (verdictOf (margin Cielab) E 232011)
     ∷ verdict (verdictOf (margin Cielab) E 231989)
     ∷ verdict (verdictOf (margin Cielab) E 231988)
-    ∷ []
+    ∷ beside
 
 -- negsuc n is −(n + 1)
 pub marked : sweep ≡
     count 137931
-    ∷ count 206892
+    ∷ count 206893
     ∷ count 206900
     ∷ count 500000
     ∷ count 1259921
-    ∷ count 9033
-    ∷ count 79996
+    ∷ count 9032
+    ∷ count 79995
+    ∷ count 80000
     ∷ count 80004
     ∷ count 1000000
     ∷ count 1301508
@@ -91,6 +98,8 @@ pub marked : sweep ≡
     ∷ verdict OnTheLine
     ∷ verdict OnTheLine
     ∷ verdict Fail
+    ∷ count 206896
+    ∷ count 206898
     ∷ []
 unfolding sweep rowSum sumsOf whiteOf colourOf chromaticityOf stepAt lightnessAt aAt bAt uOf vOf coordinate chroma labDifference
     squareRoot cubeRoot greatest climb nextBit

@@ -1,4 +1,5 @@
--- Document 01, "Colour", sentence by sentence. N stands for X, Y or Z of the sample s and D for that of the white w in the same place.
+-- Document 01, "Colour", sentence by sentence, with the constants of document 02, Job 5. N stands for X, Y or Z of the sample s and D for that
+-- of the white w in the same place.
 -- Every value that the exact difference needs is defined at a scale M; M = 1 is the colour's. Native `/` is "down". Assumes nothing.
 use mathlib.Core.Bool.{Bool, cond}
 use mathlib.Core.List.{List}
@@ -35,22 +36,23 @@ xyUnder s = s .x + s .y + s .z
 unfoldable pub chromaticityOf : Sums → Chromaticity
 chromaticityOf s = cond (eqb (xyUnder s) 0) None (At (chromaticityScale * s .x / xyUnder s) (chromaticityScale * s .y / xyUnder s))
 
--- "when N/D > 0.008856": the joint, in 1/1,000,000
-abbrev pub joint : ℕ
-joint = 8856
+-- CIE 15:2004: "The limit becomes (24/116)³", which is 216/24389
+abbrev pub limitOver : ℕ
+limitOver = 216
 
-abbrev pub jointUnit : ℕ
-jointUnit = 1000000
+abbrev pub limitUnder : ℕ
+limitUnder = 24389
 
+-- whether N/D is above the limit
 abbrev pub bright : ℕ → ℕ → Bool
-bright N D = ltb (joint * D) (jointUnit * N)
+bright N D = ltb (limitOver * D) (limitUnder * N)
 
--- "7.787 × N/D + 16/116": the slope, in 1/1,000, and the numbers of 16/116, which L* has too
-abbrev pub slope : ℕ
-slope = 7787
+-- "the straight piece of f becomes (841/108) × N/D + 16/116": its slope, and the numbers of 16/116, which L* has too
+abbrev pub slopeOver : ℕ
+slopeOver = 841
 
-abbrev pub slopeUnit : ℕ
-slopeUnit = 1000
+abbrev pub slopeUnder : ℕ
+slopeUnder = 108
 
 abbrev pub offset : ℕ
 offset = 16
@@ -60,28 +62,28 @@ gain = 116
 
 -- the straight piece as one fraction
 abbrev pub straightOver : ℕ → ℕ → ℕ
-straightOver N D = slope * gain * N + offset * slopeUnit * D
+straightOver N D = slopeOver * gain * N + offset * slopeUnder * D
 
 abbrev pub straightUnder : ℕ → ℕ
-straightUnder D = slopeUnit * gain * D
+straightUnder D = slopeUnder * gain * D
 
--- "f(N/D): the cube root of N/D when N/D > 0.008856, else 7.787 × N/D + 16/116. pX, pY, pZ are 1,000,000 × f, down, decided by comparing cubes."
+-- K × f(N/D), down: "the cube root of N/D" above the limit, else the straight piece
+abbrev pub fAt : ℕ → ℕ → ℕ → ℕ
+fAt K N D = cond (bright N D) (cubeRoot K N D) (K * straightOver N D / straightUnder D)
+
+-- "pX, pY, pZ are 1,000,000 × f, down, decided by comparing cubes."
 abbrev pub stepScale : ℕ
 stepScale = 1000000
 
 unfoldable pub stepAt : ℕ → ℕ → ℕ → ℕ
-stepAt M N D = cond (bright N D) (cubeRoot (M * stepScale) N D) (M * (stepScale * straightOver N D) / straightUnder D)
+stepAt M N D = fAt (M * stepScale) N D
 
--- "L: 10,000 × L*, down, with L* = 116 × cube root of Y/Yn − 16 above 0.008856, else 903.3 × Y/Yn."
+-- "L: 10,000 × L*, down"; "L* is 116 × f(Y/Yn) − 16 on both sides". 10,000 × 16 is whole: it is taken from 10,000 × 116 × f, down.
 abbrev pub lightnessScale : ℕ
 lightnessScale = 10000
 
--- 903.3, in 1/10,000
-abbrev pub darkRise : ℕ
-darkRise = 9033000
-
 unfoldable pub lightnessAt : ℕ → ℕ → ℕ → ℕ
-lightnessAt M N D = cond (bright N D) (cubeRoot (M * (lightnessScale * gain)) N D - M * (lightnessScale * offset)) (M * (darkRise * N) / D)
+lightnessAt M N D = fAt (M * (lightnessScale * gain)) N D - M * (lightnessScale * offset)
 
 abbrev pub lAt : ℕ → Sums → Sums → ℕ
 lAt M w s = lightnessAt M (s .y) (w .y)

@@ -1,4 +1,4 @@
 pub mod Fractions
-pub mod Joint
+pub mod Limit
 pub mod Planes
 pub mod Extents

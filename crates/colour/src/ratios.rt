@@ -22,7 +22,7 @@ pub const U_FACTOR: u64 = 4;
 pub const V_FACTOR: u64 = 9;
 
 // k × n / d, down.
-pub fn ratio(k: u64, n: u64, d: Wide) -> u32
+fn ratio(k: u64, n: u64, d: Wide) -> u32
     requires { ⌜ (value d < 2 ^ 102) × (k * n < 2 ^ 26 * value d) ⌝ }
     ensures { λ r. ⌜ (r ≡ k * n / value d) × (r < 2 ^ 26) ⌝ }
 {

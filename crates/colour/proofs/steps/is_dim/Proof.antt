@@ -1,6 +1,6 @@
--- `colour::steps::is_dim` meets its contract: at most the joint is not above it. Assumes nothing.
+-- `colour::steps::is_dim` meets its contract: at most the limit is not above it. Assumes nothing.
 use borrow.Author.Needs.{needs}
-use Rattle.colour.proofs.Joint.{dim-is}
+use Rattle.colour.proofs.Limit.{dim-is}
 use Rattle.colour.proofs.steps.is_dim.Statement.{statement}
 use Rattle.colour.proofs.steps.is_dim.Tie as tie
 
