@@ -1,6 +1,6 @@
 -- f, the step and the lightness: how they grow with the scale, and how large they are where N ≤ 2 D. Assumes nothing.
 use mathlib.Core.Path.{_≡_, refl}
-use mathlib.Core.Bool.{Bool, true, false, cond}
+use mathlib.Core.Bool.{Bool, true, false}
 use Prim.Native.Nat.{ℕ, suc, _+_, _*_, _/_, _≤_, _<_}
 use native.Mathlib.Omega.{arith}
 use native.Mathlib.Nat.{mul-assoc, add-sub-cancel, mul-le-mul-left, mul-lt-mul-of-pos-right, lt-of-le-of-lt, le-of-suc-le-suc}
@@ -23,18 +23,14 @@ limit-is = refl
 pub limit-meets : gain * straightOver limitOver limitUnder ≡ 24 * straightUnder limitUnder
 limit-meets = refl
 
--- f by the piece that is taken
-abbrev piece : Bool → ℕ → ℕ → ℕ → ℕ
-piece b K N D = cond b (cubeRoot K N D) (K * straightOver N D / straightUnder D)
-
 -- ── scales ──
 
 f-scales : (M K N D : ℕ) → 1 ≤ M → 0 < D → Scales M (fAt K N D) (fAt (M * K) N D)
-f-scales M K N D m d = go (bright N D)
+f-scales M K N D m d = go (bright N D) refl
   where
-    go : (b : Bool) → Scales M (piece b K N D) (piece b (M * K) N D)
-    go true = cubeRoot-scales M K N D m d
-    go false = rw (mul-assoc M K (straightOver N D)) (div-scales M (K * straightOver N D) (straightUnder D) m (omega arith))
+    go : (b : Bool) → bright N D ≡ b → Scales M (fAt K N D) (fAt (M * K) N D)
+    go true e = rw e (cubeRoot-scales M K N D m d)
+    go false e = rw (e, mul-assoc M K (straightOver N D)) (div-scales M (K * straightOver N D) (straightUnder D) m (omega arith))
 
 pub step-scales : (M N D : ℕ) → 1 ≤ M → 0 < D → Scales M (stepAt 1 N D) (stepAt M N D)
 unfolding stepAt
@@ -55,13 +51,13 @@ no-loss M N D d = go (bright N D) refl
     K : ℕ
     K = M * (lightnessScale * gain)
 
-    go : (b : Bool) → bright N D ≡ b → M * (lightnessScale * offset) ≤ piece b K N D
+    go : (b : Bool) → bright N D ≡ b → M * (lightnessScale * offset) ≤ fAt K N D
     go true e =
-        le-of-suc-le-suc (cube-lt (M * (lightnessScale * offset)) (suc (cubeRoot K N D)) D
+        rw e (le-of-suc-le-suc (cube-lt (M * (lightnessScale * offset)) (suc (cubeRoot K N D)) D
         (lt-of-le-of-lt
         (omega (arith, mul-le-mul-left (M * M * M) (ltb-true (limitOver * D) (limitUnder * N) e)))
-        ((cubeRoot-floor K N D d) .1)))
-    go false e = le-div-iff-mul-le {k = straightUnder D} {x = M * (lightnessScale * offset)} {y = K * straightOver N D} (omega arith) .1 (omega arith)
+        ((cubeRoot-floor K N D d) .1))))
+    go false e = rw e (le-div-iff-mul-le {k = straightUnder D} {x = M * (lightnessScale * offset)} {y = K * straightOver N D} (omega arith) .1 (omega arith))
 
 -- at and below the limit L* is 24389/27 × Y/Yn
 pub lightness-low : (M N D : ℕ) → 0 < D → bright N D ≡ false → lightnessAt M N D ≡ M * lightnessScale * 24389 * N / (27 * D)
@@ -88,12 +84,13 @@ lightness-low M N D d e =
 f-size : (K N D m : ℕ) → 0 < D → N ≤ 2 * D → 2 * (K * K * K) < suc m * suc m * suc m → fAt K N D ≤ m
 f-size K N D m d h l = go (bright N D) refl
   where
-    go : (b : Bool) → bright N D ≡ b → piece b K N D ≤ m
+    go : (b : Bool) → bright N D ≡ b → fAt K N D ≤ m
     go true e =
-        le-of-suc-le-suc (cube-lt (cubeRoot K N D) (suc m) D
-        (omega (arith, (cubeRoot-floor K N D d) .0, mul-le-mul-left (K * K * K) h, mul-lt-mul-of-pos-right l d)))
-    go false e = le-of-suc-le-suc (div-lt-iff-lt-mul {k = straightUnder D} {x = K * straightOver N D} {y = suc m} (omega arith) .1
-        (omega (arith, mul-le-mul-left K (ltb-false (limitOver * D) (limitUnder * N) e), mul-lt-mul-of-pos-right (cube-lt K (suc m) 1 (omega arith)) d)))
+        rw e (le-of-suc-le-suc (cube-lt (cubeRoot K N D) (suc m) D
+        (omega (arith, (cubeRoot-floor K N D d) .0, mul-le-mul-left (K * K * K) h, mul-lt-mul-of-pos-right l d))))
+    go false e =
+        rw e (le-of-suc-le-suc (div-lt-iff-lt-mul {k = straightUnder D} {x = K * straightOver N D} {y = suc m} (omega arith) .1
+        (omega (arith, mul-le-mul-left K (ltb-false (limitOver * D) (limitUnder * N) e), mul-lt-mul-of-pos-right (cube-lt K (suc m) 1 (omega arith)) d))))
 
 pub step-size : (N D : ℕ) → 0 < D → N ≤ 2 * D → stepAt 1 N D ≤ 1259921
 unfolding stepAt

@@ -1,6 +1,6 @@
 -- Document 01, "Colour", sentence by sentence, with the constants of document 02, Job 5. N stands for X, Y or Z of the sample s and D for that
--- of the white w in the same place.
--- Every value that the exact difference needs is defined at a scale M; M = 1 is the colour's. Native `/` is "down". Assumes nothing.
+-- of the white w in the same place. Every value that the exact difference needs is defined at a scale M; M = 1 is the colour's. Native `/` is
+-- "down". Assumes nothing.
 use mathlib.Core.Bool.{Bool, cond}
 use mathlib.Core.List.{List}
 use Prim.Native.Nat.{ℕ, _+_, _*_, _-_, _/_}
@@ -67,9 +67,13 @@ straightOver N D = slopeOver * gain * N + offset * slopeUnder * D
 abbrev pub straightUnder : ℕ → ℕ
 straightUnder D = slopeUnder * gain * D
 
+-- K times it, down
+abbrev pub straightAt : ℕ → ℕ → ℕ → ℕ
+straightAt K N D = K * straightOver N D / straightUnder D
+
 -- K × f(N/D), down: "the cube root of N/D" above the limit, else the straight piece
 abbrev pub fAt : ℕ → ℕ → ℕ → ℕ
-fAt K N D = cond (bright N D) (cubeRoot K N D) (K * straightOver N D / straightUnder D)
+fAt K N D = cond (bright N D) (cubeRoot K N D) (straightAt K N D)
 
 -- "pX, pY, pZ are 1,000,000 × f, down, decided by comparing cubes."
 abbrev pub stepScale : ℕ
@@ -78,7 +82,8 @@ stepScale = 1000000
 unfoldable pub stepAt : ℕ → ℕ → ℕ → ℕ
 stepAt M N D = fAt (M * stepScale) N D
 
--- "L: 10,000 × L*, down"; "L* is 116 × f(Y/Yn) − 16 on both sides". 10,000 × 16 is whole: it is taken from 10,000 × 116 × f, down.
+-- "L: 10,000 × L*, down"; "L* is 116 × f(Y/Yn) − 16 on both sides". Since 10,000 × 16 is whole, 10,000 × (116 × f − 16), down, is
+-- 10,000 × 116 × f, down, less 10,000 × 16.
 abbrev pub lightnessScale : ℕ
 lightnessScale = 10000
 

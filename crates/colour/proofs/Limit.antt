@@ -8,7 +8,7 @@ use borrow.Author.Tests.{ltb-true, ltb-false, le-leb, lt-leb, not-true, not-fals
 use lib.Dec.{leb, ltb}
 use Rattle.wide.specs.Roots.{cubeRoot}
 use Rattle.wide.proofs.Greatest.{cubes}
-use Rattle.cie.specs.Colour.{limitOver, limitUnder, bright, slopeOver, slopeUnder, offset, gain, straightOver, straightUnder, fAt, lightnessScale}
+use Rattle.cie.specs.Colour.{limitOver, limitUnder, bright, slopeOver, slopeUnder, offset, gain, straightOver, straightUnder, straightAt, fAt, lightnessScale}
 
 -- ── the limit ──
 
@@ -29,7 +29,7 @@ module _ (k n d a b over under : ℕ) (e : a ≡ k * (slopeOver * gain) * n) (f 
   pub straight-fits : d < 2 ^ 64 → k ≤ lightnessScale * gain → 0 < d → bright n d ≡ false → (under < 2 ^ 102) × (over < 2 ^ 26 * under)
   straight-fits w small p dim = omega (arith, mul-le-mul-left k (ltb-false (limitOver * d) (limitUnder * n) dim), mul-le-mul-right d small)
 
-  pub straight-is : (r : ℕ) → r ≡ over / under → r ≡ k * straightOver n d / straightUnder d
+  pub straight-is : (r : ℕ) → r ≡ over / under → r ≡ straightAt k n d
   straight-is r q =
       let i : over ≡ k * straightOver n d = omega arith in
       rw (← i, ← h) q
@@ -45,7 +45,7 @@ module _ (k n d : ℕ) (t : Bool) (e : t ≡ not (bright n d)) where
   pub is-dim : t ≡ true → bright n d ≡ false
   is-dim h = not-true (bright n d) (sym e ∙ h)
 
-  pub f-dim : t ≡ true → (r : ℕ) → r ≡ k * straightOver n d / straightUnder d → r ≡ fAt k n d
+  pub f-dim : t ≡ true → (r : ℕ) → r ≡ straightAt k n d → r ≡ fAt k n d
   f-dim h r q = rw (is-dim h) q
 
   pub f-bright : t ≡ false → (r : ℕ) → r ≡ cubeRoot k n d → r ≡ fAt k n d

@@ -1,8 +1,8 @@
 // f of a ratio n / d, its step and the lightness, decided by comparing cubes. The constants are those of CIE 15:2004.
 ghost use mathlib.Core.Path.{_≡_};
 ghost use mathlib.Core.Bool.{false, not};
-ghost use Prim.Native.Nat.{_*_, _/_, _≤_, _<_};
-ghost use Rattle.cie.specs.Colour.{bright, straightOver, straightUnder, fAt, stepAt, lightnessScale, gain, lightnessAt};
+ghost use Prim.Native.Nat.{_*_, _≤_, _<_};
+ghost use Rattle.cie.specs.Colour.{bright, straightAt, fAt, stepAt, lightnessScale, gain, lightnessAt};
 
 // The limit (24/116)³ is LIMIT_OVER / LIMIT_UNDER.
 const LIMIT_OVER: u64 = 216;
@@ -33,7 +33,7 @@ fn is_dim(n: u64, d: u64) -> bool
 // k × f(n / d) on the straight piece, down.
 fn straight(k: u64, n: u64, d: u64) -> u32
     requires { ⌜ (k ≤ lightnessScale * gain) × (0 < d) × (bright n d ≡ false) ⌝ }
-    ensures { λ r. ⌜ r ≡ k * straightOver n d / straightUnder d ⌝ }
+    ensures { λ r. ⌜ r ≡ straightAt k n d ⌝ }
 {
     let over = wide::sum(wide::product(k * RISE, n), wide::product(k * START, d));
     wide::quotient(over, wide::product(UNDER, d))
