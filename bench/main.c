@@ -1,7 +1,8 @@
 /* Times the float program, our trial and our host call in one process.
-     bench                          a million of each: nanoseconds, ratio to the float program
-     bench float|trial|host COUNT   only that, for counting instructions
-   All three take the same ten spectra in turn, a tenth of the count for each. */
+     bench              a million of each: nanoseconds, ratio to the float program
+     bench KIND COUNT   only that kind, for counting instructions
+   KIND is float, trial, host, dark, list or small. All take the same ten spectra in turn, a tenth of
+   the count for each. */
 
 #include <math.h>
 #include <stdio.h>
@@ -16,7 +17,15 @@
 uint32_t probe_trials(uint32_t light, const uint16_t *standard, size_t standard_len,
                       const uint16_t *trial, size_t trial_len, uint32_t amount, uint32_t count);
 
+uint64_t probe_run(const uint32_t *records, size_t records_len, const uint32_t *tables,
+                   size_t tables_len, const uint16_t *spectra, size_t spectra_len,
+                   uint32_t *buffer, size_t buffer_len);
+
 enum { SPECTRA = 10, AMOUNT = 30000, MARGIN = 12, MILLION = 1000000 };
+
+/* A call's record and an answer's, in words, and what of them is used here. */
+enum { CALL = 10, ANSWER = 32, OPEN_TABLES = 1, OPEN_LIGHT, STANDARD, TOLERANCE_LAB, TRIAL = 6,
+       TRIED = 2, VERDICT = 16, PASS = 0 };
 
 static uint16_t standard[ROWS], spectra[SPECTRA][ROWS];
 static struct float_conditions conditions;
@@ -69,6 +78,60 @@ static uint32_t run_trial(int k, uint32_t turns)
     return probe_trials(SHADE_LIGHT_D65, standard, ROWS, spectra[k], ROWS, AMOUNT, turns);
 }
 
+/* Readings of a hundredth: every step and L are on the straight piece of f. */
+static uint32_t run_dark(int k, uint32_t turns)
+{
+    uint16_t dark[ROWS];
+    for (int row = 0; row < ROWS; row++)
+        dark[row] = spectra[k][row] / 100;
+    return probe_trials(SHADE_LIGHT_D65, standard, ROWS, dark, ROWS, AMOUNT, turns);
+}
+
+/* The same trials as a list of calls, opened by the first record. */
+static uint32_t run_list(int k, uint32_t turns, const uint32_t *opening, const uint32_t *tables,
+                         size_t tables_len)
+{
+    size_t calls = turns + 3;
+    uint32_t *records = calloc(calls, CALL * sizeof *records);
+    uint32_t *answers = calloc(calls, ANSWER * sizeof *answers);
+    uint16_t both[2 * ROWS];
+    uint32_t passed = 0;
+    must(records && answers, "no memory");
+    memcpy(both, standard, sizeof standard);
+    memcpy(both + ROWS, spectra[k], sizeof standard);
+    memcpy(records, opening, CALL * sizeof *records);
+    memcpy(records + CALL, (uint32_t[]){STANDARD, 0, ROWS}, 3 * sizeof *records);
+    memcpy(records + 2 * CALL, (uint32_t[]){TOLERANCE_LAB, AMOUNT}, 2 * sizeof *records);
+    for (uint32_t turn = 0; turn < turns; turn++)
+        memcpy(records + (turn + 3) * CALL, (uint32_t[]){TRIAL, ROWS, ROWS, 1},
+               4 * sizeof *records);
+    must(probe_run(records, calls * CALL, tables, tables_len, both, 2 * ROWS, answers,
+                   calls * ANSWER) == calls, "a list was refused");
+    for (uint32_t turn = 0; turn < turns; turn++) {
+        const uint32_t *answer = answers + (turn + 3) * ANSWER;
+        must(answer[0] == TRIED, "a trial of a list was refused");
+        passed += answer[VERDICT] == PASS;
+    }
+    free(records);
+    free(answers);
+    return passed;
+}
+
+static uint32_t run_light(int k, uint32_t turns)
+{
+    return run_list(k, turns, (uint32_t[CALL]){OPEN_LIGHT, SHADE_LIGHT_D65, 5}, NULL, 0);
+}
+
+/* Under tables of ones: the sums are so small that no quotient of cut numbers is shown right. */
+static uint32_t run_small(int k, uint32_t turns)
+{
+    uint32_t ones[ROWS];
+    for (int row = 0; row < ROWS; row++)
+        ones[row] = 1;
+    return run_list(k, turns, (uint32_t[CALL]){OPEN_TABLES, 0, ROWS, 0, ROWS, 0, ROWS, 0, ROWS, 5},
+                    ones, ROWS);
+}
+
 static void as_bytes(uint8_t *bytes, const uint16_t *readings)
 {
     for (int row = 0; row < ROWS; row++) {
@@ -115,6 +178,7 @@ static void compare(void)
         for (int at = 0; at < 5; at++)
             must(fabs(values[at] - signed_at(out + 4 * at) / 10000) < 0.02, "colours differ");
         must(run_trial(k, 7) == (passes(e) ? 7u : 0u), "verdicts differ");
+        must(run_light(k, 7) == (passes(e) ? 7u : 0u), "verdicts of a list differ");
     }
 }
 
@@ -126,14 +190,18 @@ static double seconds(void)
     return (double)now.tv_sec + (double)now.tv_nsec / 1e9;
 }
 
-enum { KINDS = 3 };
+/* The first three are timed. */
+enum { TIMED = 3, KINDS = 6 };
 
 static const struct {
     const char *name, *says;
     uint32_t (*run)(int k, uint32_t turns);
 } kinds[KINDS] = {{"float", "float trial", run_float},
                   {"trial", "our trial", run_trial},
-                  {"host", "our host call", run_host}};
+                  {"host", "our host call", run_host},
+                  {"dark", "our trial of a dark spectrum", run_dark},
+                  {"list", "our trial in a list", run_light},
+                  {"small", "our trial under tables of ones", run_small}};
 
 static void count_one(const char *name, uint32_t count)
 {
@@ -145,15 +213,15 @@ static void count_one(const char *name, uint32_t count)
 /* The three take turns, so that a slow stretch of the machine falls on all. */
 static void time_all(void)
 {
-    double spent[KINDS] = {0};
+    double spent[TIMED] = {0};
     for (int k = 0; k < SPECTRA; k++)
-        for (int kind = 0; kind < KINDS; kind++) {
+        for (int kind = 0; kind < TIMED; kind++) {
             double start = seconds();
             volatile uint32_t sum = kinds[kind].run(k, MILLION / SPECTRA);
             (void)sum;
             spent[kind] += seconds() - start;
         }
-    for (int kind = 0; kind < KINDS; kind++)
+    for (int kind = 0; kind < TIMED; kind++)
         printf("%-14s %8.0f ns each %7.2f times the float trial\n", kinds[kind].says,
                spent[kind] * 1e9 / MILLION, spent[kind] / spent[0]);
 }

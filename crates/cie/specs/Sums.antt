@@ -35,6 +35,10 @@ sumsOf t readings =
 unfoldable pub whiteOf : Tables → Sums
 whiteOf t = sumsOf t (replicate (length (t .illuminant)) whiteReading)
 
+-- the sums with a row more
+abbrev pub withRow : Sums → ℕ → ℕ → ℕ → ℕ → Sums
+withRow s r x y z = record { x = s .x + r * x; y = s .y + r * y; z = s .z + r * z }
+
 -- dark white: "Xn, Yn or Zn is 0"
 abbrev pub dark : Sums → Bool
 dark w = eqb (w .x) 0 || (eqb (w .y) 0 || eqb (w .z) 0)

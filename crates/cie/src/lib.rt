@@ -1,4 +1,8 @@
 // The standards of document 01: the types that they speak of and the tables that they print. The formulas are in specs/.
+ghost use mathlib.Core.Path.{_≡_};
+ghost use Prim.Native.Nat.{_+_, _*_, _^_, _<_};
+ghost use Rattle.cie.specs.Sums.{withRow};
+
 pub mod spacing;
 pub mod spectrum;
 pub mod tables;
@@ -8,6 +12,20 @@ pub struct Sums {
     pub x: u64,
     pub y: u64,
     pub z: u64,
+}
+
+impl Sums {
+    // The sums with a row more.
+    pub fn with_row(self, r: u64, x: u64, y: u64, z: u64) -> Sums
+        requires { ⌜ (self .x + r * x < 2 ^ 64) × (self .y + r * y < 2 ^ 64) × (self .z + r * z < 2 ^ 64) ⌝ }
+        ensures { λ t. ⌜ t ≡ withRow self r x y z ⌝ }
+    {
+        Sums {
+            x: self.x + r * x,
+            y: self.y + r * y,
+            z: self.z + r * z,
+        }
+    }
 }
 
 // The tristimulus values, in 1/10,000 where the white's Y is 100.

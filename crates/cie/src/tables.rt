@@ -7,7 +7,12 @@ ghost use Rattle.cie.specs.Lights.{everySecond, tableAt};
 use crate::spacing::COARSE_ROWS;
 use crate::spacing::COARSE_SPACING;
 
-const OBSERVER_X: [u32; 81] = [
+// The numbers of the lights.
+pub const LIGHT_A: u32 = 1;
+
+pub const LIGHT_D65: u32 = 2;
+
+pub const OBSERVER_X: [u32; 81] = [
     1368,
     2236,
     4243,
@@ -91,7 +96,7 @@ const OBSERVER_X: [u32; 81] = [
     42,
 ];
 
-const OBSERVER_Y: [u32; 81] = [
+pub const OBSERVER_Y: [u32; 81] = [
     39,
     64,
     120,
@@ -175,7 +180,7 @@ const OBSERVER_Y: [u32; 81] = [
     15,
 ];
 
-const OBSERVER_Z: [u32; 81] = [
+pub const OBSERVER_Z: [u32; 81] = [
     6450,
     10550,
     20050,
@@ -259,7 +264,7 @@ const OBSERVER_Z: [u32; 81] = [
     0,
 ];
 
-const ILLUMINANT_A: [u32; 81] = [
+pub const ILLUMINANT_A: [u32; 81] = [
     97951,
     108996,
     120853,
@@ -343,7 +348,7 @@ const ILLUMINANT_A: [u32; 81] = [
     2416750,
 ];
 
-const ILLUMINANT_D65: [u32; 81] = [
+pub const ILLUMINANT_D65: [u32; 81] = [
     499755,
     523118,
     546482,

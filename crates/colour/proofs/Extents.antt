@@ -14,30 +14,47 @@ use Rattle.cie.specs.Sums.{White, AtMostTwice}
 use Rattle.cie.specs.Sizes.{Sized}
 use Rattle.cie.specs.Colour.{tristimulusOf, chromaticityOf, lAt, aAt, bAt, uOf, vOf, chroma, squares, colourOf}
 use Rattle.colour.specs.declared.difference.Place.{Place}
+use Rattle.colour.specs.declared.Coordinates.{Coordinates}
+use Rattle.colour.specs.Coordinates.{coordinatesIn}
 use Rattle.colour.specs.Places.{squaresBetween}
 use Rattle.cie.proofs.Sizes.{a-size, b-size, u-size, v-size, apart-size, luv-squares}
 
--- the whole colour, as a program has its parts
-pub colour-is : (w s : Sums) → White w → AtMostTwice w s → (t : Tristimulus) (c : Chromaticity) (l cab cuv : ℕ) (a b u v : ℤ) →
-    t ≡ tristimulusOf w s → c ≡ chromaticityOf s → l ≡ lAt 1 w s → (a ≡ aAt 1 w s) × (b ≡ bAt 1 w s) → (u ≡ uOf w s) × (v ≡ vOf w s) →
-    cab ≡ chroma a b → cuv ≡ chroma u v →
-    record { tristimulus = t; chromaticity = c; l = l; a = passed a; b = passed b; u = passed u; v = passed v; cab = cab; cuv = cuv } ≡ colourOf w s
+-- the coordinates of a colour, as a program has them
+pub coordinates-are : (w s : Sums) → White w → AtMostTwice w s → (l : ℕ) (a b u v : ℤ) →
+    l ≡ lAt 1 w s → (a ≡ aAt 1 w s) × (b ≡ bAt 1 w s) → (u ≡ uOf w s) × (v ≡ vOf w s) →
+    record { l = l; a = passed a; b = passed b; u = passed u; v = passed v } ≡ coordinatesIn (colourOf w s)
 unfolding colourOf
-colour-is w s W S t c l cab cuv a b u v et ec el eab euv f g =
+coordinates-are w s W S l a b u v el eab euv =
     rw (
       small-survives a (rw (eab .0) (omega (arith, a-size W S))),
       small-survives b (rw (eab .1) (omega (arith, b-size W S))),
       small-survives u (rw (euv .0) (omega (arith, u-size W S))),
       small-survives v (rw (euv .1) (omega (arith, v-size W S))),
-      f,
-      g,
-      et,
-      ec,
       el,
       eab .0,
       eab .1,
       euv .0,
       euv .1,
+    )
+
+-- the whole colour, by its coordinates k
+pub colour-is : (w s : Sums) → White w → AtMostTwice w s → (t : Tristimulus) (c : Chromaticity) (k : Coordinates) (cab cuv : ℕ) →
+    t ≡ tristimulusOf w s → c ≡ chromaticityOf s → k ≡ coordinatesIn (colourOf w s) →
+    cab ≡ chroma (passed (k .a)) (passed (k .b)) → cuv ≡ chroma (passed (k .u)) (passed (k .v)) →
+    record { tristimulus = t; chromaticity = c; l = k .l; a = passed (k .a); b = passed (k .b); u = passed (k .u); v = passed (k .v); cab = cab; cuv = cuv }
+    ≡ colourOf w s
+unfolding colourOf
+colour-is w s W S t c k cab cuv et ec ek f g =
+    rw (
+      f,
+      g,
+      ek,
+      small-survives (aAt 1 w s) (omega (arith, a-size W S)),
+      small-survives (bAt 1 w s) (omega (arith, b-size W S)),
+      small-survives (uOf w s) (omega (arith, u-size W S)),
+      small-survives (vOf w s) (omega (arith, v-size W S)),
+      et,
+      ec,
     )
 
 -- ── the length of a difference ──

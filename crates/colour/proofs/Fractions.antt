@@ -34,7 +34,7 @@ low-zero P h l e = let s : h * P + l ≡ l = omega (arith, ap (λ (x : ℕ). x *
 
 -- where d is X + 15 Y + 3 Z, 4 X and 9 Y are at most four times it
 pub primes-fit : (x y z d : ℕ) → x < 2 ^ 64 → y < 2 ^ 64 → z < 2 ^ 64 → d ≡ x + 15 * y + 3 * z →
-    (d < 2 ^ 102) × (4 * x ≤ 4 * d) × (9 * y ≤ 4 * d)
+    (d < 2 ^ 80) × (4 * x ≤ 4 * d) × (9 * y ≤ 4 * d)
 primes-fit x y z d hx hy hz e = omega arith
 
 -- and so their ratios to it at the scale of u' and v' are small

@@ -1,2 +1,3 @@
 pub mod White
+pub mod Coordinates
 pub mod Places

@@ -9,6 +9,7 @@ use cie::Chromaticity;
 use cie::Sums;
 use cie::Tristimulus;
 use wide::Wide;
+use wide::ratios::ratio;
 
 const TRISTIMULUS_SCALE: u64 = 1000000;
 
@@ -20,14 +21,6 @@ const PRIME_SCALE: u64 = 10000000;
 pub const U_FACTOR: u64 = 4;
 
 pub const V_FACTOR: u64 = 9;
-
-// k × n / d, down.
-fn ratio(k: u64, n: u64, d: Wide) -> u32
-    requires { ⌜ (value d < 2 ^ 102) × (k * n < 2 ^ 26 * value d) ⌝ }
-    ensures { λ r. ⌜ (r ≡ k * n / value d) × (r < 2 ^ 26) ⌝ }
-{
-    wide::quotient(wide::product(k, n), d)
-}
 
 pub fn tristimulus_of(s: Sums, w: Sums) -> Tristimulus
     requires { ⌜ White w × AtMostTwice w s ⌝ }
@@ -81,7 +74,7 @@ pub fn uv_under(s: Sums) -> Wide
 
 // u' at (4, X) and v' at (9, Y), each × 10,000,000, down.
 pub fn prime(k: u64, n: u64, under: Wide) -> u32
-    requires { ⌜ (k ≤ 9) × (0 < value under) × (value under < 2 ^ 102) × (k * n ≤ 4 * value under) ⌝ }
+    requires { ⌜ (k ≤ 9) × (0 < value under) × (value under < 2 ^ 80) × (k * n ≤ 4 * value under) ⌝ }
     ensures { λ r. ⌜ r ≡ prime (k * n) (value under) ⌝ }
 {
     ratio(PRIME_SCALE * k, n, under)

@@ -3,6 +3,7 @@ ghost use mathlib.Core.Path.{_≡_};
 ghost use mathlib.Core.Bool.{false, not};
 ghost use Prim.Native.Nat.{_*_, _≤_, _<_};
 ghost use Rattle.cie.specs.Colour.{bright, straightAt, fAt, stepAt, lightnessScale, gain, lightnessAt};
+use wide::roots::cube_root_near;
 
 // The limit (24/116)³ is LIMIT_OVER / LIMIT_UNDER.
 const LIMIT_OVER: u64 = 216;
@@ -39,29 +40,37 @@ fn straight(k: u64, n: u64, d: u64) -> u32
     wide::quotient(over, wide::product(UNDER, d))
 }
 
-// k × f(n / d), down.
-fn f_at(k: u64, n: u64, d: u64) -> u32
-    requires { ⌜ (k ≤ lightnessScale * gain) × (0 < d) × (n ≤ 2 * d) ⌝ }
-    ensures { λ r. ⌜ r ≡ fAt k n d ⌝ }
-{
-    if is_dim(n, d) {
-        return straight(k, n, d);
-    }
-    wide::roots::cube_root(k, n, d)
-}
-
 // 1,000,000 × f(n / d), down.
 pub fn step(n: u64, d: u64) -> u32
     requires { ⌜ (0 < d) × (n ≤ 2 * d) ⌝ }
     ensures { λ r. ⌜ r ≡ stepAt 1 n d ⌝ }
 {
-    f_at(STEP_SCALE, n, d)
+    if is_dim(n, d) {
+        return straight(STEP_SCALE, n, d);
+    }
+    cube_root_near(guesses::cube_root(n, d), STEP_SCALE, n, d)
 }
 
-// 10,000 × L* of n / d, down.
-pub fn lightness(n: u64, d: u64) -> u32
+// Of one ratio: 1,000,000 × f, and 10,000 × L*.
+pub struct Lightness {
+    pub step: u32,
+    pub l: u32,
+}
+
+// The step and L* of n / d, each down; above the limit by one guess.
+pub fn lightness_of(n: u64, d: u64) -> Lightness
     requires { ⌜ (0 < d) × (n ≤ 2 * d) ⌝ }
-    ensures { λ r. ⌜ r ≡ lightnessAt 1 n d ⌝ }
+    ensures { λ r. ⌜ (r .step ≡ stepAt 1 n d) × (r .l ≡ lightnessAt 1 n d) ⌝ }
 {
-    f_at(GAIN, n, d) - OFFSET
+    if is_dim(n, d) {
+        return Lightness {
+            step: straight(STEP_SCALE, n, d),
+            l: straight(GAIN, n, d) - OFFSET,
+        };
+    }
+    let guess = guesses::cube_root(n, d);
+    Lightness {
+        step: cube_root_near(guess, STEP_SCALE, n, d),
+        l: cube_root_near(guess, GAIN, n, d) - OFFSET,
+    }
 }

@@ -2,17 +2,18 @@
 use mathlib.Core.Path.{_≡_, refl, ap, _∙_}
 use mathlib.Core.Bool.{false}
 use mathlib.Core.List.{List, [], _∷_, _++_}
-use Prim.Native.Nat.{ℕ, zero, suc, _+_, _-_, _*_, _≤_, _<_}
+use Prim.Native.Nat.{ℕ, zero, suc, _+_, _-_, _*_, _^_, _≤_, _<_}
 use native.Mathlib.Omega.{arith}
 use native.Mathlib.Nat.{mul-le-mul, mul-le-mul-right, mul-assoc}
 use native.Mathlib.Numerals.{add-one}
 use lib.ListN.{length, getD, drop, replicate, getD-replicate}
 use lib.Seq.{drop-cons, drop-length}
+use Rattle.cie.specs.declared.Sums.{Sums}
 use Rattle.cie.specs.Spacing.{mostRows, filled}
 use Rattle.cie.specs.Scales.{readingLimit, whiteReading, illuminantLimit, columnLimit, anyAbove}
-use Rattle.cie.specs.Sums.{Tables, rowSum, sumsOf, whiteOf, AtMostTwice}
+use Rattle.cie.specs.Sums.{Tables, rowSum, sumsOf, whiteOf, withRow, AtMostTwice}
 use Rattle.cie.proofs.Scales.{below}
-use Rattle.conditions.specs.Weights.{productsOf, weightsOf, dot, dots, Spectrum, Weights}
+use Rattle.conditions.specs.Weights.{productsOf, weightsOf, dot, dots, Spectrum, Weights, rowLimit, Summed, Begun}
 use Rattle.conditions.proofs.Products.{products-short}
 
 -- ── the paper's sums ──
@@ -54,23 +55,17 @@ dot-more : (rs ws : List ℕ) (i : ℕ) → i < length rs → i < length ws →
 unfolding dot
 dot-more rs ws i h k = rw (add-one, drop-cons rs i 0, drop-cons ws i 0)
 
--- the most that one row adds
-abbrev most : ℕ
-most = readingLimit * (illuminantLimit * columnLimit)
-
-pub product : {rs ws : List ℕ} → Spectrum rs → Weights ws → (i : ℕ) → getD rs i 0 * getD ws i 0 ≤ most
+product : {rs ws : List ℕ} → Spectrum rs → Weights ws → (i : ℕ) → getD rs i 0 * getD ws i 0 ≤ rowLimit
 product {rs} {ws} r w i = mul-le-mul (below readingLimit rs i (r .scale)) (below (illuminantLimit * columnLimit) ws i (w .scale))
 
--- the sum of the rows before i: what is left makes the whole
-pub record Summed (rs ws : List ℕ) (sum i : ℕ) : Type 0 where
-  pub upto : sum ≤ most * i
-  pub left : sum + dot (drop i rs) (drop i ws) ≡ dot rs ws
-
-pub summed-none : (rs ws : List ℕ) → Summed rs ws 0 0
+summed-none : (rs ws : List ℕ) → Summed rs ws 0 0
 summed-none rs ws = record { upto = omega arith; left = omega arith }
 
 module _ {rs ws : List ℕ} {sum i : ℕ} (r : Spectrum rs) (w : Weights ws) (s : Summed rs ws sum i) where
-  pub summed-more : i < length rs → Summed rs ws (sum + getD rs i 0 * getD ws i 0) (i + 1)
+  summed-fits : i < length rs → sum + getD rs i 0 * getD ws i 0 < 2 ^ 64
+  summed-fits h = omega (arith, product r w i)
+
+  summed-more : i < length rs → Summed rs ws (sum + getD rs i 0 * getD ws i 0) (i + 1)
   summed-more h =
       let k : i < length ws = omega (arith, r .few, w .length-is) in
       record {
@@ -78,11 +73,56 @@ module _ {rs ws : List ℕ} {sum i : ℕ} (r : Spectrum rs) (w : Weights ws) (s 
         left = omega (arith, dot-more rs ws i h k, s .left);
       }
 
-  pub summed-all : i ≡ length rs → sum ≡ dot rs ws
+  summed-all : i ≡ length rs → sum ≡ dot rs ws
   unfolding dot
   summed-all e =
       let z : dot (drop i rs) (drop i ws) ≡ 0 = rw (e, drop-length) in
       omega (arith, s .left)
+
+module _ {rs x y z : List ℕ} where
+  pub begun-none : Spectrum rs × Weights x × Weights y × Weights z → Begun rs x y z (record { x = 0; y = 0; z = 0 }) 0
+  begun-none p =
+      record {
+        spectrum = p .0;
+        weights-x = p .1;
+        weights-y = p .2;
+        weights-z = p .3;
+        in-x = summed-none rs x;
+        in-y = summed-none rs y;
+        in-z = summed-none rs z;
+      }
+
+  -- the same rows, counted another way
+  pub begun-at : {s : Sums} {i j : ℕ} → i ≡ j → Begun rs x y z s i → Begun rs x y z s j
+  begun-at e b = rw e at b
+
+  module _ {s : Sums} {i : ℕ} (b : Begun rs x y z s i) where
+    pub begun-fits : i < length rs →
+        (s .x + getD rs i 0 * getD x i 0 < 2 ^ 64) × (s .y + getD rs i 0 * getD y i 0 < 2 ^ 64) × (s .z + getD rs i 0 * getD z i 0 < 2 ^ 64)
+    begun-fits h =
+        let r = b .spectrum in
+        (summed-fits r (b .weights-x) (b .in-x) h, summed-fits r (b .weights-y) (b .in-y) h, summed-fits r (b .weights-z) (b .in-z) h)
+
+    pub begun-more : {t : Sums} {j : ℕ} → i < length rs → t ≡ withRow s (getD rs i 0) (getD x i 0) (getD y i 0) (getD z i 0) → i + 1 ≡ j →
+        Begun rs x y z t j
+    begun-more h e f =
+        let r = b .spectrum in
+        begun-at f
+        (rw e
+        (record {
+          spectrum = r;
+          weights-x = b .weights-x;
+          weights-y = b .weights-y;
+          weights-z = b .weights-z;
+          in-x = summed-more r (b .weights-x) (b .in-x) h;
+          in-y = summed-more r (b .weights-y) (b .in-y) h;
+          in-z = summed-more r (b .weights-z) (b .in-z) h;
+        }))
+
+    pub begun-all : i ≡ length rs → s ≡ dots x y z rs
+    begun-all e =
+        let r = b .spectrum in
+        rw (summed-all r (b .weights-x) (b .in-x) e, summed-all r (b .weights-y) (b .in-y) e, summed-all r (b .weights-z) (b .in-z) e)
 
 -- ── how readings bound sums ──
 

@@ -1,5 +1,5 @@
--- Tables that pass their first two checks: their lengths, their scales, and their weights. Assumes nothing.
-use mathlib.Core.Path.{_≡_, sym, ap, _∙_}
+-- Tables that pass their first two checks: their lengths, their scales, and their weights; the built-in ones do. Assumes nothing.
+use mathlib.Core.Path.{_≡_, refl, sym, ap, _∙_}
 use mathlib.Core.Bool.{Bool, false, _||_}
 use mathlib.Core.List.{List}
 use Prim.Native.Nat.{ℕ, _≤_}
@@ -9,24 +9,39 @@ use lib.Dec.{eqb}
 use lib.ListN.{length}
 use Rattle.cie.specs.Spacing.{mostRows, rowsAt}
 use Rattle.cie.specs.Scales.{illuminantLimit, columnLimit, anyAbove}
+use Rattle.cie.specs.Tables.{observerX, observerY, observerZ, illuminantA, illuminantD65}
 use Rattle.cie.specs.Sums.{Tables}
 use Rattle.cie.proofs.Scales.{or-left, or-right}
 use Rattle.cie.proofs.TableRows.{rows-few, filled-length}
 use Rattle.conditions.specs.Weights.{productsOf, weightsOf, Weights}
-use Rattle.conditions.specs.Checks.{short, anyShort, anyOffScale}
+use Rattle.conditions.specs.Checks.{short, anyShort, anyOffScale, Fits}
 use Rattle.conditions.proofs.Products.{products-short, weights-below}
 
--- one of the tables, by its rows and its limit
-pub record Fits (rows limit : ℕ) (table : List ℕ) : Type 0 where
-  pub length-is : length table ≡ rows
-  pub scale : anyAbove limit table ≡ false
-
--- all four, at the spacing that they name
+-- all four tables, at the spacing that they name
 pub record Fit (t : Tables) : Type 0 where
   pub illuminant : Fits (rowsAt (t .spacing)) illuminantLimit (t .illuminant)
   pub x : Fits (rowsAt (t .spacing)) columnLimit (t .x)
   pub y : Fits (rowsAt (t .spacing)) columnLimit (t .y)
   pub z : Fits (rowsAt (t .spacing)) columnLimit (t .z)
+
+-- each of the built-in tables
+pub record BuiltIn : Type 0 where
+  pub a : Fits mostRows illuminantLimit illuminantA
+  pub d65 : Fits mostRows illuminantLimit illuminantD65
+  pub x : Fits mostRows columnLimit observerX
+  pub y : Fits mostRows columnLimit observerY
+  pub z : Fits mostRows columnLimit observerZ
+
+pub built-in : BuiltIn
+unfolding anyAbove illuminantA illuminantD65 observerX observerY observerZ
+built-in =
+    record {
+      a = record { length-is = refl; scale = refl };
+      d65 = record { length-is = refl; scale = refl };
+      x = record { length-is = refl; scale = refl };
+      y = record { length-is = refl; scale = refl };
+      z = record { length-is = refl; scale = refl };
+    }
 
 none-of : (a b c d : Bool) → (a || (b || (c || d))) ≡ false → (a ≡ false) × (b ≡ false) × (c ≡ false) × (d ≡ false)
 none-of a b c d h =

@@ -2,6 +2,6 @@ pub mod Products
 pub mod Dots
 pub mod Fits
 pub mod Sound
-pub mod Lights
+pub mod Opening
 pub mod Answers
 pub mod Measuring

@@ -1,5 +1,6 @@
 -- The checks of tables, lights and spectra, each list in the order of document 01, after document 02's 17. Assumes nothing.
-use mathlib.Core.Bool.{Bool, not, _||_}
+use mathlib.Core.Path.{_≡_}
+use mathlib.Core.Bool.{Bool, false, not, _||_}
 use mathlib.Core.List.{List, [], _∷_}
 use Prim.Native.Nat.{ℕ}
 use lib.Dec.{eqb}
@@ -22,6 +23,11 @@ anyShort rows illuminant x y z = short rows illuminant || (short rows x || (shor
 -- 3, off-scale condition: "an illuminant or observer entry above its limit"
 abbrev pub anyOffScale : (illuminant x y z : List ℕ) → Bool
 anyOffScale illuminant x y z = anyAbove illuminantLimit illuminant || (anyAbove columnLimit x || (anyAbove columnLimit y || anyAbove columnLimit z))
+
+-- a table by its rows and its limit
+pub record Fits (rows limit : ℕ) (table : List ℕ) : Type 0 where
+  pub length-is : length table ≡ rows
+  pub scale : anyAbove limit table ≡ false
 
 -- "Open (tables ..): checks 1, 3, 4, 5", and 17 "checked first in every call that names one", a spacing
 abbrev pub tableChecks : Tables → List Check

@@ -1,5 +1,6 @@
 -- What an opening prepares of tables that pass their checks. Assumes nothing.
 use mathlib.Core.Path.{_≡_}
+use mathlib.Core.List.{List}
 use Prim.Native.Nat.{ℕ, _≤_}
 use lib.ListN.{replicate}
 use Rattle.causes.specs.declared.Checked.{Checked}
@@ -10,6 +11,7 @@ use Rattle.cie.specs.Spacing.{mostRows, rowsAt}
 use Rattle.cie.specs.Scales.{whiteReading}
 use Rattle.cie.specs.Sums.{Tables, whiteOf, White}
 use Rattle.cie.specs.Lights.{lightTables}
+use Rattle.colour.specs.declared.white.WhitePoint.{WhitePoint}
 use Rattle.colour.specs.White.{whitePointOf}
 use Rattle.conditions.specs.declared.Conditions.{Conditions}
 use Rattle.conditions.specs.declared.Prepared.{Prepared}
@@ -26,6 +28,10 @@ conditionsOf t =
       z = weightsOf (t .illuminant) (t .z);
       white = whitePointOf (whiteOf t);
     }
+
+-- conditions whose weights are lent
+abbrev pub conditionsBy : ℕ → List ℕ → List ℕ → List ℕ → WhitePoint → Conditions
+conditionsBy rows x y z white = record { rows = rows; x = x; y = y; z = z; white = white }
 
 -- stands where nothing is opened: no row, no weight, and some white, so that soundness needs no exception
 unfoldable pub noConditions : Conditions

@@ -3,7 +3,7 @@ use mathlib.Core.Path.{_≡_}
 use mathlib.Core.Bool.{false}
 use mathlib.Core.List.{List, [], _∷_}
 use Prim.Native.Nat.{ℕ, _+_, _*_, _≤_}
-use lib.ListN.{length, replicate}
+use lib.ListN.{length, drop, replicate}
 use Rattle.cie.specs.declared.Sums.{Sums}
 use Rattle.cie.specs.Spacing.{mostRows, filled}
 use Rattle.cie.specs.Scales.{readingLimit, whiteReading, illuminantLimit, columnLimit, anyAbove}
@@ -40,3 +40,22 @@ pub record Spectrum (readings : List ℕ) : Type 0 where
 pub record Weights (ws : List ℕ) : Type 0 where
   pub length-is : length ws ≡ mostRows
   pub scale : anyAbove (illuminantLimit * columnLimit) ws ≡ false
+
+-- the most that one row adds to a sum
+abbrev pub rowLimit : ℕ
+rowLimit = readingLimit * (illuminantLimit * columnLimit)
+
+-- the sum of the rows before i: the rows that are left make it the whole
+pub record Summed (readings ws : List ℕ) (sum i : ℕ) : Type 0 where
+  pub upto : sum ≤ rowLimit * i
+  pub left : sum + dot (drop i readings) (drop i ws) ≡ dot readings ws
+
+-- the three sums of the rows before i, of readings by weights that can be summed
+pub record Begun (readings x y z : List ℕ) (sums : Sums) (i : ℕ) : Type 0 where
+  pub spectrum : Spectrum readings
+  pub weights-x : Weights x
+  pub weights-y : Weights y
+  pub weights-z : Weights z
+  pub in-x : Summed readings x (sums .x) i
+  pub in-y : Summed readings y (sums .y) i
+  pub in-z : Summed readings z (sums .z) i

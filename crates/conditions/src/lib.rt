@@ -11,6 +11,8 @@ use causes::Checked;
 use cie::Sums;
 use cie::spacing;
 use cie::tables;
+use cie::tables::LIGHT_A;
+use cie::tables::LIGHT_D65;
 use colour::white;
 use colour::white::WhitePoint;
 
@@ -125,10 +127,10 @@ pub fn prepare_light(light: u32, spacing: u32) -> Prepared
     if spacing::is_unknown(spacing) {
         return refused(Cause::UnknownSpacing);
     }
-    if light == 1 {
+    if light == LIGHT_A {
         return prepare_observed(spacing, tables::illuminant_a(spacing));
     }
-    if light == 2 {
+    if light == LIGHT_D65 {
         return prepare_observed(spacing, tables::illuminant_d65(spacing));
     }
     refused(Cause::NoSuchLight)

@@ -1,16 +1,17 @@
 // Measuring a spectrum under conditions.
 ghost use mathlib.Core.Path.{_≡_};
 ghost use Prim.Native.Nat.{_≤_};
+ghost use lib.ListN.{length};
 ghost use Rattle.cie.specs.Spacing.{mostRows};
 ghost use Rattle.cie.specs.Scales.{readingLimit};
 ghost use Rattle.conditions.specs.Weights.{Spectrum, Weights};
-ghost use Rattle.conditions.specs.Conditions.{Sound};
+ghost use Rattle.conditions.specs.Conditions.{conditionsBy, Sound};
 ghost use Rattle.conditions.specs.Measure.{measureAnswer, measuredBy, causeIn, colourUnder};
-use crate::Conditions;
 use crate::weights;
 use causes::Cause;
 use cie::Colour;
 use cie::Sums;
+use colour::white::WhitePoint;
 
 // The sums of a spectrum, or the cause against it.
 pub enum Measured {
@@ -49,11 +50,16 @@ pub fn cause_of(measured: Measured) -> Cause
     }
 }
 
-// The colour of a spectrum under conditions.
-pub fn colour_under(conditions: Conditions, readings: &[u16]) -> Colour
-    requires { ⌜ Sound conditions × Spectrum (now readings) ⌝ }
-    ensures { λ r. ⌜ r ≡ colourUnder conditions (now (readings .entry)) ⌝ }
+// The colour of a spectrum by the weights and the white of conditions.
+pub fn colour_by<'a>(
+    readings: &[u16],
+    white: WhitePoint,
+    x: &'a [u64],
+    y: &'a [u64],
+    z: &'a [u64],
+) -> Colour
+    requires { ⌜ Sound (conditionsBy (length (now readings)) (now x) (now y) (now z) white) × Spectrum (now readings) ⌝ }
+    ensures { λ r. ⌜ r ≡ colourUnder (conditionsBy (length (now (readings .entry))) (now (x .entry)) (now (y .entry)) (now (z .entry)) white) (now (readings .entry)) ⌝ }
 {
-    let sums = weights::sums_of(readings, &conditions.x, &conditions.y, &conditions.z);
-    colour::colour_of(sums, conditions.white)
+    colour::colour_of(weights::sums_of(readings, x, y, z), white)
 }

@@ -1,9 +1,9 @@
 // Weights, and the sums of readings by them.
 ghost use mathlib.Core.Path.{_≡_};
-ghost use Prim.Native.Nat.{_≤_};
+ghost use Prim.Native.Nat.{_+_, _≤_};
 ghost use lib.ListN.{length};
 ghost use Rattle.cie.specs.Spacing.{mostRows};
-ghost use Rattle.conditions.specs.Weights.{weightsOf, dots, whiteReadings, Spectrum, Weights};
+ghost use Rattle.conditions.specs.Weights.{weightsOf, dots, whiteReadings, Spectrum, Weights, Begun};
 use cie::Sums;
 
 pub const WHITE_READING: u16 = 10000;
@@ -24,27 +24,44 @@ pub fn weights_of(illuminant: &[u32], column: &[u32]) -> [u64; 81]
     weights
 }
 
+// The sums with some rows more, from a row on.
+fn with_rows<'a>(
+    s: Sums,
+    first: usize,
+    count: usize,
+    readings: &[u16],
+    x: &'a [u64],
+    y: &'a [u64],
+    z: &'a [u64],
+) -> Sums
+    requires { ⌜ Begun (now readings) (now x) (now y) (now z) s first × (first + count ≤ length (now readings)) ⌝ }
+    ensures { λ r. ⌜ Begun (now (readings .entry)) (now (x .entry)) (now (y .entry)) (now (z .entry)) r (first + count) ⌝ }
+{
+    let mut sums = s;
+    let mut i = 0;
+    while i < count {
+        let row = first + i;
+        sums = sums.with_row(readings[row] as u64, x[row], y[row], z[row]);
+        i = i + 1;
+    }
+    sums
+}
+
+// The rows of a turn: 81 rows are four turns and a row, 41 are two and a row.
+const TURN: usize = 20;
+
 // The three sums of reading × weight over the readings' own rows, in one pass.
 pub fn sums_of<'a>(readings: &[u16], x: &'a [u64], y: &'a [u64], z: &'a [u64]) -> Sums
     requires { ⌜ Spectrum (now readings) × Weights (now x) × Weights (now y) × Weights (now z) ⌝ }
     ensures { λ r. ⌜ r ≡ dots (now (x .entry)) (now (y .entry)) (now (z .entry)) (now (readings .entry)) ⌝ }
 {
-    let mut sum_x: u64 = 0;
-    let mut sum_y: u64 = 0;
-    let mut sum_z: u64 = 0;
+    let mut sums = Sums { x: 0, y: 0, z: 0 };
     let mut row = 0;
-    while row < readings.len() {
-        let r = readings[row] as u64;
-        sum_x = sum_x + r * x[row];
-        sum_y = sum_y + r * y[row];
-        sum_z = sum_z + r * z[row];
-        row = row + 1;
+    while TURN <= readings.len() - row {
+        sums = with_rows(sums, row, TURN, readings, x, y, z);
+        row = row + TURN;
     }
-    Sums {
-        x: sum_x,
-        y: sum_y,
-        z: sum_z,
-    }
+    with_rows(sums, row, readings.len() - row, readings, x, y, z)
 }
 
 // The sums with every reading that of the white.

@@ -13,6 +13,8 @@ use Rattle.cie.specs.Spacing.{rowsAt, spectrumBytes, spacingTold}
 use Rattle.cie.specs.Scales.{readingLimit, anyAbove}
 use Rattle.cie.specs.Lights.{unknownLight, lightTables}
 use Rattle.cie.specs.Colour.{colourAt}
+use Rattle.colour.specs.declared.Coordinates.{Coordinates}
+use Rattle.colour.specs.Coordinates.{coordinatesIn}
 use Rattle.endian.specs.Bytes.{le32, words, twos}
 use Rattle.host.specs.declared.Coloured.{Coloured}
 use Rattle.host.specs.declared.Coloured.the-variants.{Whole, Refused}
@@ -32,8 +34,11 @@ hostReadings bytes = words bytes 0 2 (hostRows bytes)
 abbrev pub answerLength : ℕ
 answerLength = 20
 
-unfoldable pub answerBytes : Colour → List ℕ
-answerBytes c = le32 (twos (pos (c .l))) ++ le32 (twos (c .a)) ++ le32 (twos (c .b)) ++ le32 (twos (c .u)) ++ le32 (twos (c .v))
+unfoldable pub coordinateBytes : Coordinates → List ℕ
+coordinateBytes c = le32 (twos (pos (c .l))) ++ le32 (twos (c .a)) ++ le32 (twos (c .b)) ++ le32 (twos (c .u)) ++ le32 (twos (c .v))
+
+abbrev pub answerBytes : Colour → List ℕ
+answerBytes c = coordinateBytes (coordinatesIn c)
 
 -- "or a cause (16, 1, 2, 15)": those of the light and the spectrum, and then that of the buffer
 abbrev pub colourChecks : ℕ → List ℕ → List Check
@@ -50,13 +55,18 @@ hostChecks light bytes room = colourChecks light bytes ++ (check (ltb room answe
 unfoldable pub hostColour : ℕ → List ℕ → Colour
 hostColour light bytes = colourAt (lightTables light (hostSpacing bytes)) (hostReadings bytes)
 
--- what is found before the buffer is looked at, in the paper's numbers: the colour, or the number of the cause
-abbrev pub colouredAnswer : Coloured → Numbered Colour
-colouredAnswer (Whole colour) = accepted colour
+-- what is found before the buffer is looked at, in the paper's numbers: the coordinates, or the number of the cause
+abbrev pub colouredAnswer : Coloured → Numbered Coordinates
+colouredAnswer (Whole coordinates) = accepted coordinates
 colouredAnswer (Refused cause) = refusal cause
 
-unfoldable pub colouredOf : ℕ → List ℕ → Numbered Colour
-colouredOf light bytes = numbered (firstOf (colourChecks light bytes)) (hostColour light bytes)
+-- of readings under a light at a spacing
+unfoldable pub colouredBy : ℕ → ℕ → List ℕ → Numbered Coordinates
+colouredBy light spacing readings =
+    numbered (firstOf (check (anyAbove readingLimit readings) OverBright ∷ [])) (coordinatesIn (colourAt (lightTables light spacing) readings))
+
+unfoldable pub colouredOf : ℕ → List ℕ → Numbered Coordinates
+colouredOf light bytes = numbered (firstOf (colourChecks light bytes)) (coordinatesIn (hostColour light bytes))
 
 -- "gets 0 and L, a, b, u, v .., or a cause"
 unfoldable pub answered : ℕ → List ℕ → ℕ → ℕ

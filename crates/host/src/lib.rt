@@ -1,77 +1,53 @@
 // The call for a host program in C: the colour of a spectrum under a built-in light.
 use causes::Cause;
-use causes::Checked;
-use cie::Colour;
 use cie::spacing;
 use cie::spectrum::READING_LIMIT;
-use conditions::measure::Measured;
-use conditions::measure::measure;
+use colour::Coordinates;
 ghost use mathlib.Core.Path.{_≡_};
+ghost use mathlib.Core.Bool.{false};
 ghost use mathlib.Core.List.{_++_};
-ghost use Prim.Native.Nat.{_+_, _≤_};
+ghost use Prim.Native.Nat.{_+_, _^_, _≤_, _<_};
 ghost use lib.ListN.{length};
 ghost use lib.Seq.{sets};
-ghost use Rattle.cie.specs.Spacing.{mostRows, spectrumBytes};
-ghost use Rattle.cie.specs.Scales.{readingLimit};
-ghost use Rattle.cie.specs.Sizes.{Sized};
-ghost use Rattle.conditions.specs.Weights.{Weights};
-ghost use Rattle.conditions.specs.Measure.{measureAnswer, measuredBy};
+ghost use Rattle.cie.specs.Spacing.{unknownSpacing, rowsAt, spectrumBytes};
 ghost use Rattle.endian.specs.Bytes.{le32, words, twos};
-ghost use Rattle.host.specs.Host.{answerLength, answerBytes, colouredAnswer, colouredOf, answered, bufferAfter};
+ghost use Rattle.host.specs.Host.{answerLength, coordinateBytes, colouredAnswer, colouredBy, colouredOf, answered, bufferAfter};
 
 // The bytes of an answer.
 const ANSWER: usize = 20;
 
-// The colour of a spectrum, or the cause against it or its light.
+// The coordinates of a spectrum, or the cause against it or its light.
 enum Coloured {
-    Whole(Colour),
+    Whole(Coordinates),
     Refused(Cause),
 }
 
-// Measures a spectrum held in bytes, with as many places lent for its readings as it has rows.
-fn measure_bytes<'a>(
-    spectrum: &[u8],
-    places: &mut [u16],
-    x: &'a [u64],
-    y: &'a [u64],
-    z: &'a [u64],
-) -> Measured
-    requires { ⌜ (length (now places) ≤ mostRows) × (length (now spectrum) ≡ spectrumBytes (length (now places))) × Weights (now x) × Weights (now y) × Weights (now z) ⌝ }
-    ensures { λ r. ⌜ measureAnswer r ≡ measuredBy readingLimit (length (now (places .entry))) (now (x .entry)) (now (y .entry)) (now (z .entry)) (words (now (spectrum .entry)) 0 2 (length (now (places .entry)))) ⌝ }
+// The coordinates under a light of a spectrum held in bytes, with as many places lent for its readings as it has rows.
+fn colour_through(light: u32, spacing: u32, spectrum: &[u8], places: &mut [u16]) -> Coloured
+    requires { ⌜ (unknownSpacing spacing ≡ false) × (length (now places) ≡ rowsAt spacing) × (length (now spectrum) ≡ spectrumBytes (rowsAt spacing)) ⌝ }
+    ensures { λ r. ⌜ colouredAnswer r ≡ colouredBy light spacing (words (now (spectrum .entry)) 0 2 (rowsAt spacing)) ⌝ }
 {
     endian::read_words(spectrum, 0, places);
-    let rows = places.len();
-    measure(places, READING_LIMIT, rows, x, y, z)
+    if cie::spectrum::over_bright(places, READING_LIMIT) {
+        return Coloured::Refused(Cause::OverBright);
+    }
+    Coloured::Whole(lights::coordinates_in(light, spacing, places))
 }
 
-// The colour under a light of a spectrum held in bytes, whose length tells the spacing.
+// The coordinates under a light of a spectrum held in bytes, whose length tells the spacing.
 fn colour_in_light(light: u32, spectrum: &[u8]) -> Coloured
     ensures { λ r. ⌜ colouredAnswer r ≡ colouredOf light (now (spectrum .entry)) ⌝ }
 {
-    let spacing = spacing::told_by(spectrum.len());
-    let opened = conditions::prepare_light(light, spacing);
-    let checked = opened.checked;
-    if let Checked::Because(cause) = checked {
-        return Coloured::Refused(cause);
+    if lights::is_unknown(light) {
+        return Coloured::Refused(Cause::NoSuchLight);
     }
+    let spacing = spacing::told_by(spectrum.len());
     let rows = spacing::rows_at(spacing);
     if spectrum.len() != spacing::READING_BYTES * rows {
         return Coloured::Refused(Cause::ShortTable);
     }
     let mut readings = [0u16; spacing::MOST_ROWS];
-    let conditions = opened.conditions;
-    let measured = measure_bytes(
-        spectrum,
-        &mut readings[..rows],
-        &conditions.x,
-        &conditions.y,
-        &conditions.z,
-    );
-    let Measured::Whole(sums) = measured else {
-        return Coloured::Refused(Cause::OverBright);
-    };
-    let white = conditions.white;
-    Coloured::Whole(colour::colour_of(sums, white))
+    colour_through(light, spacing, spectrum, &mut readings[..rows])
 }
 
 // Two signed numbers, 4 bytes each.
@@ -84,9 +60,9 @@ fn put_pair(out: &mut [u8], at: usize, p: i32, q: i32)
 }
 
 // L, a, b, u and v, 4 bytes each.
-fn put_answer(out: &mut [u8], colour: Colour)
-    requires { ⌜ Sized colour × (answerLength ≤ length (now out)) ⌝ }
-    ensures { λ _. ⌜ now (out .exit) ≡ sets (now (out .entry)) 0 (answerBytes colour) ⌝ }
+fn put_answer(out: &mut [u8], colour: Coordinates)
+    requires { ⌜ (colour .l < 2 ^ 31) × (answerLength ≤ length (now out)) ⌝ }
+    ensures { λ _. ⌜ now (out .exit) ≡ sets (now (out .entry)) 0 (coordinateBytes colour) ⌝ }
 {
     endian::write_i32(out, 0, colour.l as i32);
     put_pair(out, 4, colour.a, colour.b);

@@ -2,7 +2,7 @@
 use Prim.Native.Nat.{ℕ}
 use mathlib.Core.Bool.{cond}
 use mathlib.Core.List.{List, [], _∷_, _++_}
-use lib.ListN.{getD, take, drop}
+use lib.ListN.{take, drop}
 use Rattle.causes.specs.declared.Cause.the-variants.{NotABook}
 use Rattle.causes.specs.Causes.{causeNumber}
 use Rattle.cie.specs.declared.Colour.{Colour}
@@ -43,12 +43,9 @@ linesOf spacing (k ∷ ks) readings =
 abbrev pub shadeLines : ℕ → List ℕ → List ℕ
 shadeLines spacing s = linesOf spacing (numbersOf s) (readingsOf (rowsAt spacing) s)
 
--- the colour of a book's i-th shade, from 0, under conditions, and its line
+-- the colour of a book's i-th shade, from 0, under conditions
 abbrev pub shadeUnder : Conditions → List ℕ → ℕ → Colour
 shadeUnder c s i = colourUnder c (spectrumOf (c .rows) (readingsOf (c .rows) s) i)
-
-abbrev pub shadeLine : Conditions → List ℕ → ℕ → List ℕ
-shadeLine c s i = lineOf (getD (numbersOf s) i 0) (shadeUnder c s i)
 
 -- the longest line: two numbers of at most 10 digits, four signed ones of at most 11 characters, five spaces and a line feed
 abbrev pub lineRoom : ℕ

@@ -4,21 +4,22 @@ mod line;
 use causes::Cause;
 use cie::Colour;
 use cie::spacing;
-use conditions::Conditions;
+use cie::tables::LIGHT_D65;
+use colour::white::WhitePoint;
 use conditions::measure;
 ghost use mathlib.Core.Path.{_≡_};
 ghost use mathlib.Core.Bool.{true, false};
 ghost use Prim.Native.Nat.{_+_, _*_, _≤_, _<_};
-ghost use lib.ListN.{length};
+ghost use lib.ListN.{length, getD};
 ghost use Rattle.cie.specs.Spacing.{unknownSpacing, rowsAt};
-ghost use Rattle.conditions.specs.Conditions.{Sound};
-ghost use Rattle.book.specs.Book.{mostShades, countOf, isBook};
+ghost use Rattle.conditions.specs.Conditions.{conditionsBy, Sound};
+ghost use Rattle.book.specs.Book.{mostShades, countOf, numbersOf, isBook, Contents};
 ghost use Rattle.io.specs.Counts.{Counts};
 ghost use Rattle.text.specs.Text.{Put};
-ghost use Rattle.listing.specs.Listing.{shadeUnder, shadeLine, shadeLines, lineRoom, refusal, listingOf};
+ghost use Rattle.listing.specs.Listing.{lineOf, shadeUnder, shadeLines, lineRoom, refusal, listingOf};
 
-// D65, the light of the listing.
-const LIGHT: u32 = 2;
+// The light of the listing.
+const LIGHT: u32 = LIGHT_D65;
 
 // The line that stands for what is not a book.
 fn put_refusal(out: &mut [u8], at: usize) -> usize
@@ -30,23 +31,28 @@ fn put_refusal(out: &mut [u8], at: usize) -> usize
     text::put(out, number, b"\n")
 }
 
-// The colour of a book's i-th shade, from 0, with as many places lent for its readings as there are rows.
-fn shade_under(conditions: Conditions, book: &[u8], i: usize, places: &mut [u16]) -> Colour
-    requires { ⌜ Sound conditions × (isBook (conditions .rows) (now book) ≡ true) × (i < countOf (now book)) × (length (now places) ≡ conditions .rows) ⌝ }
-    ensures { λ r. ⌜ r ≡ shadeUnder conditions (now (book .entry)) i ⌝ }
+// The colour of a book's i-th shade, from 0, with a place lent for each of its readings.
+fn shade_under<'a>(
+    book: &[u8],
+    i: usize,
+    places: &mut [u16],
+    white: WhitePoint,
+    x: &'a [u64],
+    y: &'a [u64],
+    z: &'a [u64],
+) -> Colour
+    requires { ⌜ Sound (conditionsBy (length (now places)) (now x) (now y) (now z) white) × (isBook (length (now places)) (now book) ≡ true) × (i < countOf (now book)) ⌝ }
+    ensures { λ r. ⌜ r ≡ shadeUnder (conditionsBy (length (now (places .entry))) (now (x .entry)) (now (y .entry)) (now (z .entry)) white) (now (book .entry)) i ⌝ }
 {
     book::reader::spectrum_at(book, i, places);
-    measure::colour_under(conditions, places)
+    measure::colour_by(places, white, x, y, z)
 }
 
-// The line of a book's i-th shade, from 0.
-fn put_shade(conditions: Conditions, book: &[u8], i: usize, out: &mut [u8], at: usize) -> usize
-    requires { ⌜ Sound conditions × (isBook (conditions .rows) (now book) ≡ true) × (i < countOf (now book)) × (at + lineRoom ≤ length (now out)) ⌝ }
-    ensures { λ r. ⌜ Put (now (out .entry)) at (shadeLine conditions (now (book .entry)) i) (now (out .exit)) r × (r ≤ at + lineRoom) ⌝ }
+// The line of a book's i-th shade, from 0, which has a colour.
+fn put_shade(book: &[u8], i: usize, colour: Colour, out: &mut [u8], at: usize) -> usize
+    requires { ⌜ Contents (now book) × (i < countOf (now book)) × (at + lineRoom ≤ length (now out)) ⌝ }
+    ensures { λ r. ⌜ Put (now (out .entry)) at (lineOf (getD (numbersOf (now (book .entry))) i 0) colour) (now (out .exit)) r × (r ≤ at + lineRoom) ⌝ }
 {
-    let rows = conditions.rows;
-    let mut readings = [0u16; spacing::MOST_ROWS];
-    let colour = shade_under(conditions, book, i, &mut readings[..rows]);
     let number = book::reader::number_at(book, i);
     line::put_line(out, at, number as u32, colour)
 }
@@ -58,11 +64,23 @@ fn put_lines(spacing: u32, book: &[u8], out: &mut [u8], start: usize) -> usize
 {
     let opened = conditions::prepare_light(LIGHT, spacing);
     let conditions = opened.conditions;
+    let rows = conditions.rows;
+    let white = conditions.white;
     let n = book::reader::count(book);
+    let mut readings = [0u16; spacing::MOST_ROWS];
     let mut at = start;
     let mut i = 0;
     while i < n {
-        at = put_shade(conditions, book, i, out, at);
+        let colour = shade_under(
+            book,
+            i,
+            &mut readings[..rows],
+            white,
+            &conditions.x,
+            &conditions.y,
+            &conditions.z,
+        );
+        at = put_shade(book, i, colour, out, at);
         i += 1;
     }
     at

@@ -1,10 +1,10 @@
-// The calls that only look. A look is lent the weights and told what stands: it is given no session, so it cannot move one.
+// The calls that only look. A look is given the conditions and what stands beside them: it is given no session, so it cannot move one.
 ghost use mathlib.Core.Path.{_≡_};
-ghost use Rattle.trials.specs.Tried.{ValidStanding, conditionsBy};
+ghost use Rattle.trials.specs.Tried.{ValidStanding};
 ghost use Rattle.looks.specs.Look.{preview};
 ghost use Rattle.looks.specs.Looked.{seenAnswer, lookedBy};
 use causes::Cause;
-use colour::white::WhitePoint;
+use conditions::Conditions;
 use trials::Standing;
 use trials::TrialAnswer;
 use trials::TrialResult;
@@ -16,20 +16,13 @@ pub enum Seen {
 }
 
 // What a trial of a spectrum for a table would answer.
-pub fn preview<'a>(
-    standing: Standing,
-    table: u32,
-    rows: usize,
-    white: WhitePoint,
-    readings: &[u16],
-    x: &'a [u64],
-    y: &'a [u64],
-    z: &'a [u64],
-) -> Seen
-    requires { ⌜ ValidStanding (conditionsBy rows (now x) (now y) (now z) white) standing ⌝ }
-    ensures { λ r. ⌜ seenAnswer r ≡ lookedBy (conditionsBy rows (now (x .entry)) (now (y .entry)) (now (z .entry)) white) standing (preview table (now (readings .entry))) ⌝ }
+pub fn preview(conditions: Conditions, standing: Standing, table: u32, readings: &[u16]) -> Seen
+    requires { ⌜ ValidStanding conditions standing ⌝ }
+    ensures { λ r. ⌜ seenAnswer r ≡ lookedBy conditions standing (preview table (now (readings .entry))) ⌝ }
 {
-    match trials::tried(standing, table, rows, white, readings, x, y, z) {
+    let tried = trials::tried_under(conditions, standing, table, readings);
+    let found = tried.found;
+    match found {
         TrialResult::Answered(trial) => Seen::Previewed(trial),
         TrialResult::Refused(cause) => Seen::Refused(cause),
     }

@@ -20,16 +20,17 @@ use Rattle.conditions.specs.Conditions.{Prepares}
 use Rattle.conditions.specs.Measure.{measureAnswer, measuredBy}
 use Rattle.conditions.proofs.Answers.{prepared-because, prepared-clear}
 use Rattle.conditions.proofs.Measuring.{measured-refused, measured-whole}
+use Rattle.tallies.specs.declared.TableTallies.{TableTallies}
 use Rattle.trials.specs.declared.Standing.{Standing}
-use Rattle.trials.specs.declared.TrialResult.{TrialResult}
+use Rattle.trials.specs.Outcome.{TrialOutcome}
 use Rattle.trials.specs.Checks.{frameLimit}
-use Rattle.trials.specs.Tried.{triedAnswer, triedBy, ValidStanding}
+use Rattle.trials.specs.Tried.{triedBy, talliesAfter, ValidStanding}
 use Rattle.looks.specs.Look.{Look, Sight}
 use Rattle.looks.specs.Looked.{lookedBy}
 use Rattle.session.specs.declared.Session.{Session}
 use Rattle.session.specs.Call.{set-standard, trial, look}
-use Rattle.session.specs.Outcome.{refused}
-use Rattle.session.specs.Served.{Reply, served, refusedBy, openedBy, standardBy, standingOf, countedBy, seenBy, Valid}
+use Rattle.session.specs.Outcome.{Outcome, refused}
+use Rattle.session.specs.Served.{Reply, served, refusedBy, openedBy, standardBy, standingOf, withTallies, foundOutcome, seenBy, Valid}
 
 -- a call whose checks found a cause of this number is refused with it
 refused-as : (s : Session) (found : Checked) (a : Reply) {n : ℕ} → (d : Cause) × (found ≡ Because d) × (causeNumber d ≡ n) →
@@ -69,12 +70,15 @@ module _ (s : Session) {q : Standing} (stands : q ≡ standingOf s) where
   pub valid-told : Valid s → ValidStanding (s .conditions) q
   valid-told v = subst (ValidStanding (s .conditions)) (sym stands) (v .standing)
 
-  -- what a trial found, by the case that it is, and counted
-  pub trial-found : (table : ℕ) (readings : List ℕ) {found case : TrialResult} → found ≡ case →
-      triedAnswer found ≡ triedBy (s .conditions) q table readings → countedBy s table (triedAnswer case) ≡ served s (trial table readings)
-  trial-found table readings told e =
-      ap (λ (r : TrialResult). countedBy s table (triedAnswer r)) (sym told)
-      ∙ ap (countedBy s table) (e ∙ ap (λ (x : Standing). triedBy (s .conditions) x table readings) stands)
+  -- a trial leaves the tallies after what it found, which is its outcome
+  pub trial-left : (table : ℕ) (readings : List ℕ) {found : Numbered TrialOutcome} {tallies : TableTallies} {outcome : Outcome} →
+      let tried = triedBy (s .conditions) q table readings in
+      found ≡ tried → tallies ≡ talliesAfter (q .tallies) table tried → outcome ≡ foundOutcome found →
+      record { session = withTallies s tallies; outcome = outcome } ≡ served s (trial table readings)
+  trial-left table readings e t o =
+      let told : Standing → Numbered TrialOutcome = λ x. triedBy (s .conditions) x table readings in
+      (λ i. record { session = withTallies s (t i); outcome = (o ∙ ap foundOutcome e) i })
+      ∙ ap (λ (x : Standing). record { session = withTallies s (talliesAfter (x .tallies) table (told x)); outcome = foundOutcome (told x) }) stands
 
   pub look-seen : (k : Look) {a : Numbered Sight} → a ≡ lookedBy (s .conditions) q k → seenBy s a ≡ served s (look k)
   look-seen k e = ap (seenBy s) (e ∙ ap (λ (x : Standing). lookedBy (s .conditions) x k) stands)

@@ -14,7 +14,7 @@ use Rattle.conditions.specs.Conditions.{conditionsOf, noConditions}
 use Rattle.conditions.specs.Measure.{colourUnder}
 use Rattle.tallies.specs.declared.Tallies.{Tallies}
 use Rattle.tallies.specs.declared.TableTallies.{TableTallies}
-use Rattle.tallies.specs.Tallies.{noSets, talliedFor, eachOf}
+use Rattle.tallies.specs.Tallies.{noSets, eachOf}
 use Rattle.rules.specs.declared.Tolerance.{Tolerance}
 use Rattle.rules.specs.declared.Tolerance.the-variants.{Unset}
 use Rattle.rules.specs.declared.Standard.the-variants.{Missing, Of}
@@ -22,7 +22,7 @@ use Rattle.rules.specs.Standing.{toleranceChecks}
 use Rattle.rules.specs.Rules.{toleranceOf}
 use Rattle.trials.specs.declared.Standing.{Standing}
 use Rattle.trials.specs.Outcome.{TrialOutcome}
-use Rattle.trials.specs.Tried.{trialOutcome, triedBy, ValidStanding}
+use Rattle.trials.specs.Tried.{trialOutcome, triedBy, talliesAfter, ValidStanding}
 use Rattle.looks.specs.Look.{Sight}
 use Rattle.looks.specs.Looked.{seenAnswer, lookedBy}
 use Rattle.session.specs.declared.Answer.{Answer}
@@ -63,7 +63,11 @@ refusedBy s cause = record { session = s; outcome = refused (causeNumber cause) 
 
 -- "Accepted: new conditions, and the standard is dropped. Tolerance and tallies remain."
 abbrev pub openedBy : Session → Conditions → Reply
-openedBy s c = record { session = record { conditions = c; opened = true; standard = Missing; tolerance = s .tolerance; tallies = s .tallies }; outcome = accepted }
+openedBy s c =
+    record {
+      session = record { conditions = c; opened = true; standard = Missing; tolerance = s .tolerance; tallies = s .tallies };
+      outcome = accepted;
+    }
 
 -- "Standard (spectrum) .. Returns its colour."
 abbrev pub standardBy : Session → Colour → Reply
@@ -87,11 +91,14 @@ standingOf s = record { opened = s .opened; standard = s .standard; tolerance = 
 abbrev pub withTallies : Session → TableTallies → Session
 withTallies s tallies = record { conditions = s .conditions; opened = s .opened; standard = s .standard; tolerance = s .tolerance; tallies = tallies }
 
--- "Its tally rises by 1.": of a trial that returns a verdict, the verdict's, for the table that the trial names
+-- what a trial finds, as its call's outcome
+abbrev pub foundOutcome : Numbered TrialOutcome → Outcome
+foundOutcome (causes.accepted t) = tried t
+foundOutcome (causes.refused cause) = refused cause
+
+-- a trial moves its tally alone, and answers what it finds
 abbrev pub countedBy : Session → ℕ → Numbered TrialOutcome → Reply
-countedBy s table (causes.accepted t) =
-    record { session = withTallies s (record { sets = talliedFor (s .tallies .sets) table (t .verdict) }); outcome = tried t }
-countedBy s table (causes.refused cause) = record { session = s; outcome = refused cause }
+countedBy s table found = record { session = withTallies s (talliesAfter (s .tallies) table found); outcome = foundOutcome found }
 
 -- "the session itself doesn't move", whatever a look answers
 abbrev pub seenBy : Session → Numbered Sight → Reply

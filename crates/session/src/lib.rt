@@ -2,8 +2,9 @@
 // inspection table, by value.
 ghost use mathlib.Core.Path.{_≡_};
 ghost use Rattle.cie.specs.Sums.{tablesOf};
+ghost use Rattle.trials.specs.Tried.{triedAnswer};
 ghost use Rattle.session.specs.Call.{open-tables, open-light, set-standard, set-tolerance, trial, report};
-ghost use Rattle.session.specs.Served.{Valid, shown, freshSession, refusedBy, openedBy, standardBy, toleranceBy, standingOf};
+ghost use Rattle.session.specs.Served.{Valid, outcomeOf, shown, freshSession, refusedBy, openedBy, standardBy, toleranceBy, standingOf, foundOutcome};
 ghost use Rattle.session.specs.Meets.{Meets};
 use causes::Cause;
 use causes::Checked;
@@ -51,6 +52,16 @@ pub enum Answer {
 pub struct Served {
     pub session: Session,
     pub answer: Answer,
+}
+
+// What a trial finds, as its call's answer.
+fn answer_of(found: TrialResult) -> Answer
+    ensures { λ r. ⌜ outcomeOf r ≡ foundOutcome (triedAnswer found) ⌝ }
+{
+    match found {
+        TrialResult::Refused(cause) => Answer::Refused(cause),
+        TrialResult::Answered(trial) => Answer::Tried(trial),
+    }
 }
 
 impl Session {
@@ -222,29 +233,14 @@ impl Session {
         requires { ⌜ Valid self ⌝ }
         ensures { λ r. ⌜ Meets self (trial table (now (readings .entry))) r ⌝ }
     {
-        let standing = self.standing();
-        let rows = self.conditions.rows;
-        let white = self.conditions.white;
-        let found = trials::tried(
-            standing,
-            table,
-            rows,
-            white,
-            readings,
-            &self.conditions.x,
-            &self.conditions.y,
-            &self.conditions.z,
-        );
-        let trial = match found {
-            TrialResult::Refused(cause) => return self.refused(cause),
-            TrialResult::Answered(trial) => trial,
-        };
-        let tallies = self.tallies;
-        let verdict = trial.verdict;
-        self.tallies = tallies.tallied(table, verdict);
+        let conditions = self.conditions;
+        let tried = trials::tried_under(conditions, self.standing(), table, readings);
+        let tallies = tried.tallies;
+        let found = tried.found;
+        self.tallies = tallies;
         Served {
             session: self,
-            answer: Answer::Tried(trial),
+            answer: answer_of(found),
         }
     }
 

@@ -1,4 +1,4 @@
-// The calls that only look: each lends the session's weights, says what stands, and returns the session as it was.
+// The calls that only look: each gives the session's conditions, says what stands, and returns the session as it was.
 ghost use Rattle.looks.specs.Look.{preview};
 ghost use Rattle.session.specs.Call.{look};
 ghost use Rattle.session.specs.Served.{Valid};
@@ -13,19 +13,8 @@ impl Session {
         requires { ⌜ Valid self ⌝ }
         ensures { λ r. ⌜ Meets self (look (preview table (now (readings .entry)))) r ⌝ }
     {
-        let standing = self.standing();
-        let rows = self.conditions.rows;
-        let white = self.conditions.white;
-        let seen = looks::preview(
-            standing,
-            table,
-            rows,
-            white,
-            readings,
-            &self.conditions.x,
-            &self.conditions.y,
-            &self.conditions.z,
-        );
+        let conditions = self.conditions;
+        let seen = looks::preview(conditions, self.standing(), table, readings);
         Served {
             session: self,
             answer: Answer::Seen(seen),

@@ -3,18 +3,18 @@
 use mathlib.Core.List.{List}
 use Prim.Native.Nat.{ℕ}
 use Rattle.causes.specs.declared.Cause.the-variants.{NoTolerance}
-use Rattle.causes.specs.Causes.{Numbered, accepted, refusal}
+use Rattle.causes.specs.Causes.{Numbered, accepted, refused, refusal}
 use Rattle.causes.specs.Checks.{firstOf, unless}
 use Rattle.cie.specs.declared.Colour.{Colour}
-use Rattle.colour.specs.declared.white.WhitePoint.{WhitePoint}
 use Rattle.conditions.specs.declared.Conditions.{Conditions}
 use Rattle.conditions.specs.Conditions.{Sound}
 use Rattle.conditions.specs.Measure.{colourUnder}
 use Rattle.rules.specs.declared.Difference.{Difference}
 use Rattle.rules.specs.declared.Judged.{Judged}
 use Rattle.rules.specs.declared.Judged.the-variants.{Without, By}
+use Rattle.tallies.specs.declared.TableTallies.{TableTallies}
 use Rattle.tallies.specs.ByTable.{isFull}
-use Rattle.tallies.specs.Tallies.{tallySum, setOf, Within}
+use Rattle.tallies.specs.Tallies.{tallySum, setOf, talliedFor, Within}
 use Rattle.rules.specs.Rules.{hasTolerance, hasStandard, SizedStandard, spaceOf, unitsOf, judgedOf}
 use Rattle.trials.specs.declared.Standing.{Standing}
 use Rattle.trials.specs.declared.TrialAnswer.{TrialAnswer}
@@ -34,10 +34,6 @@ abbrev pub triedAnswer : TrialResult → Numbered TrialOutcome
 triedAnswer (Answered t) = accepted (trialOutcome t)
 triedAnswer (Refused cause) = refusal cause
 
--- conditions whose weights are lent
-abbrev pub conditionsBy : ℕ → List ℕ → List ℕ → List ℕ → WhitePoint → Conditions
-conditionsBy rows x y z white = record { rows = rows; x = x; y = y; z = z; white = white }
-
 -- what a judgement answers; past the checks there is a standard and a tolerance to judge by
 abbrev pub judgedAs : Colour → Judged → Numbered TrialOutcome
 judgedAs colour Without = refusal NoTolerance
@@ -51,6 +47,11 @@ triedBy c s table readings =
     firstOf (trialChecks table (s .opened) (hasStandard (s .standard)) (hasTolerance (s .tolerance)) full (c .rows) readings))
     refusal
     (let colour = colourUnder c readings in judgedAs colour (judgedOf (s .standard) (s .tolerance) colour))
+
+-- "Its tally rises by 1.": of a trial that returns a verdict, the verdict's, for the table that the trial names
+abbrev pub talliesAfter : TableTallies → ℕ → Numbered TrialOutcome → TableTallies
+talliesAfter tallies table (accepted t) = record { sets = talliedFor (tallies .sets) table (t .verdict) }
+talliesAfter tallies table (refused cause) = tallies
 
 -- what holds of a session that is fresh, or that an earlier call returned or left
 pub record ValidStanding (c : Conditions) (s : Standing) : Type 0 where

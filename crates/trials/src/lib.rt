@@ -1,13 +1,16 @@
-// A trial worked out, apart from where a session lies: it is lent the weights, is told what stands beside them, and is given no session. A trial
-// and a preview of one are both worked out here.
+// A trial worked out, apart from where a session lies: it is given the conditions and what stands beside them, and no session. A trial and a
+// preview of one are both worked out here.
 ghost use mathlib.Core.Path.{_≡_};
-ghost use Rattle.trials.specs.Tried.{ValidStanding, conditionsBy, triedAnswer, triedBy};
+ghost use Rattle.conditions.specs.Conditions.{conditionsBy};
+ghost use Rattle.tallies.specs.Tallies.{Within};
+ghost use Rattle.trials.specs.Tried.{ValidStanding, triedAnswer, triedBy, talliesAfter};
 use causes::Cause;
 use causes::Checked;
 use cie::Colour;
 use cie::Verdict;
 use cie::spectrum::READING_LIMIT;
 use colour::white::WhitePoint;
+use conditions::Conditions;
 use conditions::measure;
 use conditions::measure::Measured;
 use rules::Difference;
@@ -42,8 +45,14 @@ pub enum TrialResult {
     Refused(Cause),
 }
 
-// What a trial for a table finds of a spectrum, which should have so many rows.
-pub fn tried<'a>(
+// What a trial finds, beside the tallies after it.
+pub struct Tried {
+    pub found: TrialResult,
+    pub tallies: TableTallies,
+}
+
+// What a trial for a table finds of a spectrum, which should have so many rows, by lent weights.
+fn tried_by<'a>(
     standing: Standing,
     table: u32,
     rows: usize,
@@ -76,4 +85,47 @@ pub fn tried<'a>(
         difference: e,
         verdict: verdict,
     })
+}
+
+// The tallies after what a trial for a table finds.
+fn tallied_by(tallies: TableTallies, table: u32, found: TrialResult) -> TableTallies
+    requires { ⌜ Within (tallies .sets) ⌝ }
+    ensures { λ r. ⌜ r ≡ talliesAfter tallies table (triedAnswer found) ⌝ }
+{
+    match found {
+        TrialResult::Refused(_) => tallies,
+        TrialResult::Answered(trial) => {
+            let verdict = trial.verdict;
+            tallies.tallied(table, verdict)
+        }
+    }
+}
+
+// A trial for a table under conditions, which lend their weights.
+pub fn tried_under(
+    conditions: Conditions,
+    standing: Standing,
+    table: u32,
+    readings: &[u16],
+) -> Tried
+    requires { ⌜ ValidStanding conditions standing ⌝ }
+    ensures { λ r. ⌜ triedAnswer (r .found) ≡ triedBy conditions standing table (now (readings .entry)) ⌝ }
+    ensures { λ r. ⌜ r .tallies ≡ talliesAfter (standing .tallies) table (triedBy conditions standing table (now (readings .entry))) ⌝ }
+{
+    let white = conditions.white;
+    let tallies = standing.tallies;
+    let found = tried_by(
+        standing,
+        table,
+        conditions.rows,
+        white,
+        readings,
+        &conditions.x,
+        &conditions.y,
+        &conditions.z,
+    );
+    Tried {
+        found: found,
+        tallies: tallied_by(tallies, table, found),
+    }
 }

@@ -1,16 +1,14 @@
 -- Numbers of two digits in a base P: their product by columns, their order, and the bounds that keep a sum or a multiple to two digits. Assumes nothing.
 use mathlib.Core.Path.{_≡_, sym, ap, _∙_}
 use Prim.Native.Nat.{ℕ, suc, _+_, _*_, _/_, _%_, _^_, _≤_, _<_}
-use native.Mathlib.Nat.{le-of-lt, mul-le-mul, mul-le-mul-right, mul-lt-mul-of-pos-left, lt-of-le-of-lt, lt-of-mul-lt-mul-right, div-add-mod'}
+use native.Mathlib.Nat.{mul-le-mul-right, mul-lt-mul-of-pos-left, lt-of-le-of-lt, lt-of-mul-lt-mul-right, div-add-mod', add-mod, add-mod-mod, mod-add-mod}
 use native.Mathlib.Decide.{decLe}
 use native.Mathlib.Omega.{arith}
 use lib.Dec.{leb}
 use borrow.Author.Tests.{le-leb, lt-leb}
+use Rattle.guesses.proofs.Products.{half-product}
 
 -- ── the product of two words by halves of 32 bits ──
-
-pub half-product : (x y : ℕ) → x < 2 ^ 32 → y < 2 ^ 32 → x * y ≤ 18446744065119617025
-half-product x y h k = mul-le-mul {n₂ = 4294967295} {m₂ = 4294967295} (omega arith) (omega arith)
 
 -- no product of halves is above (2^32 − 1)²
 pub record Halves (a b : ℕ) : Type 0 where
@@ -34,7 +32,7 @@ columns : (P a₀ a₁ b₀ b₁ q₀ r₀ q r q₁ r₁ : ℕ) → q₀ * P + r
 columns P a₀ a₁ b₀ b₁ q₀ r₀ q r q₁ r₁ e₀ e e₁ = omega (arith, ap (λ (x : ℕ). x * P) e, ap (λ (x : ℕ). x * P) e₁)
 
 -- the same, with the carries and digits as a program takes them
-pub whole : (P a b : ℕ) →
+whole : (P a b : ℕ) →
     let w : ℕ = a % P * (b % P) in
     let t : ℕ = a / P * (b % P) + w / P in
     let m : ℕ = t % P + a % P * (b / P) in
@@ -45,6 +43,39 @@ whole P a b =
     let m : ℕ = t % P + a % P * (b / P) in
     columns P (a % P) (a / P) (b % P) (b / P) (w / P) (w % P) (t / P) (t % P) (m / P) (m % P) (div-add-mod' w P) (div-add-mod' t P) (div-add-mod' m P)
     ∙ rw (div-add-mod' a P, div-add-mod' b P)
+
+-- the lower word, as the lowest product and the two in the middle, moved up
+moved-up : (w v : ℕ) → v < 2 ^ 32 → (w + v * 2 ^ 32) % 2 ^ 64 ≡ (w / 2 ^ 32 + v) % 2 ^ 32 * 2 ^ 32 + w % 2 ^ 32
+moved-up w v h = omega arith
+
+middle : (P q x y : ℕ) → (q + (x % P + y % P) % P) % P ≡ ((x + q) % P + y) % P
+middle P q x y =
+    ap (λ (z : ℕ). (q + z) % P) (sym (add-mod x y P))
+    ∙ add-mod-mod q (x + y) P
+    ∙ ap (λ (z : ℕ). z % P) {x = q + (x + y)} {y = x + q + y} (omega arith)
+    ∙ sym (mod-add-mod (x + q) P y)
+
+lower-word : (w x y : ℕ) →
+    (w + (x % 2 ^ 32 + y % 2 ^ 32) % 2 ^ 32 * 2 ^ 32) % 2 ^ 64 ≡ ((x + w / 2 ^ 32) % 2 ^ 32 + y) % 2 ^ 32 * 2 ^ 32 + w % 2 ^ 32
+lower-word w x y =
+    moved-up w ((x % 2 ^ 32 + y % 2 ^ 32) % 2 ^ 32) (omega arith) ∙ ap (λ (z : ℕ). z * 2 ^ 32 + w % 2 ^ 32) (middle (2 ^ 32) (w / 2 ^ 32) x y)
+
+-- the product of two words by that lower word
+pub by-words : (a b : ℕ) {lo : ℕ} →
+    let w : ℕ = a % 2 ^ 32 * (b % 2 ^ 32) in
+    let x : ℕ = a / 2 ^ 32 * (b % 2 ^ 32) in
+    let y : ℕ = a % 2 ^ 32 * (b / 2 ^ 32) in
+    let t : ℕ = x + w / 2 ^ 32 in
+    let m : ℕ = t % 2 ^ 32 + y in
+    lo ≡ (w + (x % 2 ^ 32 + y % 2 ^ 32) % 2 ^ 32 * 2 ^ 32) % 2 ^ 64 →
+    (a / 2 ^ 32 * (b / 2 ^ 32) + t / 2 ^ 32 + m / 2 ^ 32) * 2 ^ 64 + lo ≡ a * b
+by-words a b e =
+    let w : ℕ = a % 2 ^ 32 * (b % 2 ^ 32) in
+    let x : ℕ = a / 2 ^ 32 * (b % 2 ^ 32) in
+    let y : ℕ = a % 2 ^ 32 * (b / 2 ^ 32) in
+    let t : ℕ = x + w / 2 ^ 32 in
+    let m : ℕ = t % 2 ^ 32 + y in
+    ap (λ (l : ℕ). (a / 2 ^ 32 * (b / 2 ^ 32) + t / 2 ^ 32 + m / 2 ^ 32) * 2 ^ 64 + l) (e ∙ lower-word w x y) ∙ whole (2 ^ 32) a b
 
 -- ── the order ──
 
@@ -87,6 +118,6 @@ times-upper P q h l k = upper P (q * h) (q * l) (omega arith)
 pub times-carried : (P q h l p₁ p₀ : ℕ) → q * (h * P + l) < P * P → p₁ * P + p₀ ≡ q * l → q * h + p₁ < P
 times-carried P q h l p₁ p₀ k e = upper P (q * h + p₁) p₀ (omega arith)
 
--- a multiple of less than A of a number below B is below A × B
-pub times-below : (A B q v : ℕ) → q < A → v < B → q * v < A * B
-times-below A B q v h k = lt-of-le-of-lt (mul-le-mul-right v (le-of-lt h)) (mul-lt-mul-of-pos-left k (omega arith))
+-- a multiple by at most A of a number below B is below A × B
+pub times-below : (A B q v : ℕ) → 0 < A → q ≤ A → v < B → q * v < A * B
+times-below A B q v a h k = lt-of-le-of-lt (mul-le-mul-right v h) (mul-lt-mul-of-pos-left k a)

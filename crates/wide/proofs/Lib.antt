@@ -2,3 +2,4 @@ pub mod Greatest
 pub mod Scaling
 pub mod Halves
 pub mod Search
+pub mod Cuts

@@ -1,13 +1,15 @@
 -- A search by halving ends at the last number that passes its test, and that is the root or the quotient rounded down. Assumes nothing.
-use mathlib.Core.Path.{_≡_, sym, ap}
-use mathlib.Core.Bool.{Bool, true, false}
-use Prim.Native.Nat.{ℕ, zero, suc, _+_, _*_, _/_, _^_, _≤_, _<_}
+use mathlib.Core.Path.{_≡_, refl, sym, ap, _∙_}
+use mathlib.Core.Bool.{Bool, true, false, not, _&&_, true≢false}
+use Prim.Native.Nat.{ℕ, zero, suc, _+_, _-_, _*_, _/_, _^_, _≤_, _<_}
 use native.Mathlib.Nat.{div-eq-of-lt-le, pow-suc}
 use native.Mathlib.Numerals.{add-one}
 use native.Mathlib.Omega.{arith}
+use native.Mathlib.Decide.{decLe}
+use borrow.Author.Tests.{le-leb, lt-leb}
 use lib.Dec.{leb, leb→le, nleb→lt}
 use lib.Pow.{pow-pos}
-use Rattle.wide.specs.Roots.{Last, squareRoot, cubeRoot}
+use Rattle.wide.specs.Roots.{Last, isLast, squareRoot, cubeRoot, quotientBelow, squareBelow, cubeBelow}
 use Rattle.wide.proofs.Greatest.{squareRoot-is, cubeRoot-is}
 
 -- the test holds at lo and fails 2^turns above it, at top or below; half is half of 2^turns, and 0 where that is 1
@@ -64,24 +66,40 @@ module _ {t : ℕ → Bool} {top lo half : ℕ} (b : Between t top lo half) wher
     pub lower-half : t (lo + half) ≡ false → Between t top lo (half / 2)
     lower-half h = half-left (turn .rest) (turn .power) (omega (arith, mid-below)) (b .holds) h
 
--- q is at most n / d
-abbrev pub quotientBelow : (n d : ℕ) → ℕ → Bool
-quotientBelow n d q = leb (q * d) n
+-- ── the last number that passes is the quotient or the root ──
 
 pub last-quotient : (n d q : ℕ) → Last (quotientBelow n d) q → q ≡ n / d
 last-quotient n d q l = sym (div-eq-of-lt-le d (leb→le (q * d) n (l .passes)) (omega (arith, nleb→lt (suc q * d) n (l .stops))))
 
--- p is at most the square root of n
-abbrev pub squareBelow : ℕ → ℕ → Bool
-squareBelow n p = leb (p * p) n
-
 pub last-square : (n p : ℕ) → Last (squareBelow n) p → p ≡ squareRoot n
 last-square n p l = sym (squareRoot-is n p (leb→le (p * p) n (l .passes)) (nleb→lt (suc p * suc p) n (l .stops)))
 
--- p is at most k times the cube root of n / d
-abbrev pub cubeBelow : (k n d : ℕ) → ℕ → Bool
-cubeBelow k n d p = leb (p * p * p * d) (k * k * k * n)
-
-pub last-cube : (k n d p : ℕ) → 0 < d → Last (cubeBelow k n d) p → p ≡ cubeRoot k n d
+pub last-cube : (k n d p : ℕ) → 0 < d → Last (cubeBelow d (k * k * k * n)) p → p ≡ cubeRoot k n d
 last-cube k n d p h l =
     sym (cubeRoot-is k n d p h (leb→le (p * p * p * d) (k * k * k * n) (l .passes)) (nleb→lt (suc p * suc p * suc p * d) (k * k * k * n) (l .stops)))
+
+-- ── a guess that two comparisons show right ──
+
+-- it passes, and the number after it does not
+pub last-shown : (t : ℕ → Bool) (p : ℕ) → isLast t p ≡ true → Last t p
+last-shown t p e = go (t p) (t (p + 1)) refl refl e
+  where
+    go : (a b : Bool) → t p ≡ a → t (p + 1) ≡ b → (a && not b) ≡ true → Last t p
+    go true false f g h = record { passes = rw f tt; stops = rw (rw (add-one p) at g) tt }
+    go true true f g h = absurd (true≢false (sym h))
+    go false b f g h = absurd (true≢false (sym h))
+
+-- how a program tells: by its test of p, and then by one that says whether the number after p fails
+pub is-last : (t : ℕ → Bool) (p : ℕ) {a b : Bool} → a ≡ t p → a ≡ true → b ≡ not (t (p + 1)) → b ≡ isLast t p
+is-last t p e f g = rw (sym e ∙ f) g
+
+pub not-last : (t : ℕ → Bool) (p : ℕ) {a : Bool} → a ≡ t p → a ≡ false → false ≡ isLast t p
+not-last t p e f = rw (sym e ∙ f) refl
+
+-- the square of the number after p is above n where p² leaves at most 2 p of n
+pub square-left : (n p : ℕ) → p * p ≤ n → leb (n - p * p) (2 * p) ≡ not (squareBelow n (p + 1))
+square-left n p h = go (decLe (n - p * p) (2 * p))
+  where
+    go : Dec (n - p * p ≤ 2 * p) → leb (n - p * p) (2 * p) ≡ not (squareBelow n (p + 1))
+    go (yes k) = le-leb (n - p * p) (2 * p) k ∙ ap not (sym (lt-leb ((p + 1) * (p + 1)) n (omega arith)))
+    go (no k) = lt-leb (n - p * p) (2 * p) (omega arith) ∙ ap not (sym (le-leb ((p + 1) * (p + 1)) n (omega arith)))

@@ -1,5 +1,5 @@
 -- Roots rounded down: "down" is the largest whole number not above. Assumes nothing.
-use mathlib.Core.Bool.{Bool, true, false, not}
+use mathlib.Core.Bool.{Bool, true, false, not, _&&_}
 use Prim.Native.Nat.{ℕ, zero, suc, _+_, _*_, _/_}
 use lib.Dec.{T, leb}
 
@@ -7,6 +7,10 @@ use lib.Dec.{T, leb}
 pub record Last (t : ℕ → Bool) (r : ℕ) : Type 0 where
   pub passes : T (t r)
   pub stops : T (not (t (suc r)))
+
+-- whether r is such a number
+abbrev pub isLast : (ℕ → Bool) → ℕ → Bool
+isLast t r = t r && not (t (r + 1))
 
 -- the greatest number that passes t, given q, the greatest whose double passes
 unfoldable pub nextBit : (ℕ → Bool) → ℕ → ℕ
@@ -28,3 +32,15 @@ squareRoot n = greatest (λ p. leb (p * p) n) n
 -- K times the cube root of N / D, down, "decided by comparing cubes": p is at most that when p³ D ≤ K³ N
 unfoldable pub cubeRoot : ℕ → ℕ → ℕ → ℕ
 cubeRoot K N D = greatest (λ p. leb (p * p * p * D) (K * K * K * N)) (K * suc (N / D))
+
+-- the tests that decide a quotient or a root: q is at most n / d
+abbrev pub quotientBelow : (n d : ℕ) → ℕ → Bool
+quotientBelow n d q = leb (q * d) n
+
+-- p is at most the square root of n
+abbrev pub squareBelow : ℕ → ℕ → Bool
+squareBelow n p = leb (p * p) n
+
+-- p is at most the cube root of aim / d
+abbrev pub cubeBelow : (d aim : ℕ) → ℕ → Bool
+cubeBelow d aim p = leb (p * p * p * d) aim

@@ -6,7 +6,8 @@ use borrow.Author.Needs.{needs}
 use Rattle.causes.proofs.Checks.{fires}
 use Rattle.cie.specs.Spacing.{unknownSpacing}
 use Rattle.cie.specs.Tables.{illuminantA, illuminantD65}
-use Rattle.conditions.proofs.Lights.{whole, held-length, light-a, light-d65, light-none}
+use Rattle.conditions.proofs.Fits.{built-in}
+use Rattle.conditions.proofs.Opening.{held-length, light-a, light-d65, light-none}
 use Rattle.conditions.proofs.Answers.{prepares-as}
 use Rattle.conditions.proofs.prepare_light.Statement.{statement}
 use Rattle.conditions.proofs.prepare_light.Tie as tie
@@ -41,10 +42,10 @@ prepare-light-spec =
     (λ c κs. search needs)
     returns
     (λ c κs. search needs)
-    (λ c κs. held-length _ illuminantA (whole .a) (c .illuminant-a .ensures))
+    (λ c κs. held-length _ illuminantA (built-in .a .length-is) (c .illuminant-a .ensures))
     returns-2
     (λ c κs. search needs)
-    (λ c κs. held-length _ illuminantD65 (whole .d65) (c .illuminant-d65 .ensures))
+    (λ c κs. held-length _ illuminantD65 (built-in .d65 .length-is) (c .illuminant-d65 .ensures))
     returns-3
     (λ c κs. search needs)
     returns-4)

@@ -4,7 +4,8 @@ use borrow.Author.Needs.{needs}
 use Rattle.cie.specs.Tables.{observerX, observerY, observerZ}
 use Rattle.cie.proofs.TableRows.{part-length}
 use Rattle.conditions.specs.Conditions.{preparedOf}
-use Rattle.conditions.proofs.Lights.{whole, held-length, lent}
+use Rattle.conditions.proofs.Fits.{built-in}
+use Rattle.conditions.proofs.Opening.{held-length, lent}
 use Rattle.conditions.proofs.Answers.{prepares-as}
 use Rattle.conditions.proofs.prepare_observed.Statement.{statement}
 use Rattle.conditions.proofs.prepare_observed.Tie as tie
@@ -36,14 +37,14 @@ prepare-observed-spec =
     (λ c. search needs)
     (λ c.
     let o = c .before .before .before .before in
-    sym (part-length _ (o .before .rows-at .ensures .2) (held-length _ observerX (whole .x) (o .observer-x .ensures))))
+    sym (part-length _ (o .before .rows-at .ensures .2) (held-length _ observerX (built-in .x .length-is) (o .observer-x .ensures))))
     (λ c. search needs)
     (λ c.
     let o = c .before .before .before .before in
-    sym (part-length _ (o .before .before .rows-at .ensures .2) (held-length _ observerY (whole .y) (o .observer-y .ensures))))
+    sym (part-length _ (o .before .before .rows-at .ensures .2) (held-length _ observerY (built-in .y .length-is) (o .observer-y .ensures))))
     (λ c. search needs)
     (λ c.
     let o = c .before .before .before .before in
-    sym (part-length _ (o .before .before .before .rows-at .ensures .2) (held-length _ observerZ (whole .z) (o .observer-z .ensures))))
+    sym (part-length _ (o .before .before .before .rows-at .ensures .2) (held-length _ observerZ (built-in .z .length-is) (o .observer-z .ensures))))
     (λ c κs. search needs)
     returns)

@@ -1,129 +1,64 @@
--- `host::colour_in_light` meets its contract: its checks run in their order, and readings that pass have a colour. Assumes nothing.
+-- `host::colour_in_light` meets its contract: the checks of the light and of the length come before those of the readings. Assumes nothing.
 use mathlib.Core.Path.{_≡_, sym, ap, _∙_}
-use mathlib.Core.List.{List}
-use Prim.Native.Nat.{ℕ}
-use native.Mathlib.Omega.{arith}
+use mathlib.Core.Bool.{false}
 use borrow.Author.Needs.{needs}
 use denote.Ref.{now}
 use lib.ListN.{length}
-use Rattle.causes.specs.declared.Checked.the-variants.{Clear}
-use Rattle.cie.specs.Spacing.{rowsAt, spectrumBytes}
-use Rattle.cie.specs.Scales.{readingLimit}
-use Rattle.cie.proofs.TableRows.{places-length}
-use Rattle.conditions.specs.declared.Conditions.{Conditions}
-use Rattle.conditions.specs.Conditions.{preparedLight, Prepares}
-use Rattle.conditions.specs.Measure.{measureAnswer, measuredBy}
-use Rattle.conditions.proofs.Measuring.{measured-ready}
-use Rattle.host.specs.Host.{hostSpacing, hostRows, hostReadings}
-use Rattle.host.proofs.Spectra.{at-told, opened, known, refused-light, measured-at, over-bright, refused-short, refused-bright, whole}
+use Rattle.cie.specs.Spacing.{unknownSpacing, rowsAt, spectrumBytes}
+use Rattle.cie.specs.Lights.{unknownLight}
+use Rattle.cie.proofs.TableRows.{places-length, told-known}
+use Rattle.host.specs.Host.{hostRows}
+use Rattle.host.proofs.Spectra.{no-light, short, whole}
 use Rattle.host.proofs.colour_in_light.Statement.{statement}
 use Rattle.host.proofs.colour_in_light.Tie as tie
 
--- where the light was opened: what was given, and what the opening promises at the spacing that the length tells
-abbrev start : tie.After-prepare-light → tie.Start
-start p = p .before .before .before
+-- where the rows are told: what was given, and what the tests before found
+abbrev start : tie.After-rows-at → tie.Start
+start r = r .before .before .before .before .before
 
-abbrev light : tie.After-prepare-light → ℕ
-light p = start p .args .light
+lit : (r : tie.After-rows-at) → unknownLight (start r .args .light) ≡ false
+lit r = let t = r .before .before in sym (t .before .is-unknown .ensures) ∙ t .if1 .left
 
-abbrev bytes : tie.After-prepare-light → List ℕ
-bytes p = now (start p .args .spectrum)
+rows : (r : tie.After-rows-at) → r .rows-at .result ≡ hostRows (now (start r .args .spectrum))
+rows r = r .rows-at .ensures .0 ∙ ap rowsAt (r .before .told-by .ensures)
 
-opening : (p : tie.After-prepare-light) → Prepares (preparedLight (light p) (hostSpacing (bytes p))) (p .prepare-light .result)
-opening p = at-told (light p) (bytes p) (p .before .told-by .ensures) (p .prepare-light .ensures)
+refused-light : tie.Need-returns
+refused-light c =
+    let a = c .before .before .before .args in
+    no-light (a .light) (now (a .spectrum)) (sym (c .before .is-unknown .ensures) ∙ c .if1 .taken)
 
-refused : tie.Need-returns
-refused c =
-    let p = c .before .before .before in
-    refused-light (light p) (bytes p) (p .prepare-light .result) (opening p) _ (c .before .checked .given .1)
-
--- where the light is known: the rows
-abbrev opened-at : tie.After-rows-at → tie.After-prepare-light
-opened-at r = r .before .before .before
-
-rows : (r : tie.After-rows-at) → r .rows-at .result ≡ hostRows (bytes (opened-at r))
-rows r = r .rows-at .ensures .0 ∙ ap rowsAt (opened-at r .before .told-by .ensures)
-
-clear : (r : tie.After-rows-at) → opened-at r .prepare-light .result .checked ≡ Clear
-clear r = r .before .enum-told .given .1
-
-short : tie.Need-returns-2
-short c =
+refused-short : tie.Need-returns-2
+refused-short c =
     let r = c .before in
-    let p = opened-at r in
-    refused-short (light p) (bytes p) (known (light p) (bytes p) (p .prepare-light .result) (opening p) (clear r))
-    (λ e. c .if1 .taken (e ∙ ap spectrumBytes (sym (rows r))))
+    let a = start r .args in
+    short (a .light) (now (a .spectrum)) (lit r) (λ e. c .if2 .taken (e ∙ ap spectrumBytes (sym (rows r))))
 
-measure-bytes-requires : tie.Need-measure-bytes-requires
-measure-bytes-requires c κs =
-    let t = c .before .before .before .before .before .before .before .before .before in
-    let r = t .before in
-    let sound = opened-at r .prepare-light .ensures .sound in
-    let n = places-length (r .rows-at .ensures .2) in
-    (omega (arith, n, r .rows-at .ensures .2), t .if1 .left ∙ ap spectrumBytes (sym n), sound .weights-x, sound .weights-y, sound .weights-z)
+colour-through-requires : tie.Need-colour-through-requires
+colour-through-requires c κs =
+    let r = c .before .before in
+    let e = r .rows-at .ensures in
+    let known = ap unknownSpacing (r .before .told-by .ensures) ∙ told-known (length (now (start r .args .spectrum))) in
+    (known, places-length (e .2) ∙ e .0, c .before .if2 .left ∙ ap spectrumBytes (e .0))
 
--- where the spectrum was measured
-abbrev tested : tie.After-measure-bytes → tie.Else1
-tested m = m .before .before .before .before .before .before .before .before .before .before
-
-measured : (m : tie.After-measure-bytes) →
-    let p = opened-at (tested m .before) in
-    let k = p .prepare-light .result .conditions in
-    measureAnswer (m .measure-bytes .result) ≡ measuredBy readingLimit (hostRows (bytes p)) (k .x) (k .y) (k .z) (hostReadings (bytes p))
-measured m =
-    let r = tested m .before in
-    let p = opened-at r in
-    let k = p .prepare-light .result .conditions in
-    measured-at (bytes p) (k .x) (k .y) (k .z) (places-length (r .rows-at .ensures .2) ∙ rows r) (m .measure-bytes .ensures)
-
--- what the tests before it found
-full : (t : tie.Else1) → length (bytes (opened-at (t .before))) ≡ spectrumBytes (hostRows (bytes (opened-at (t .before))))
-full t = t .if1 .left ∙ ap spectrumBytes (rows (t .before))
-
-bright : tie.Need-returns-3
-bright c =
-    let m = c .before .before .before in
-    let t = tested m in
-    let p = opened-at (t .before) in
-    let lit = known (light p) (bytes p) (p .prepare-light .result) (opening p) (clear (t .before)) in
-    refused-bright (light p) (bytes p) lit (full t) (over-bright (bytes p) _ _ _ (measured m) (c .enum-told2 .given .1))
-
-colour-of-requires : tie.Need-colour-of-requires
-colour-of-requires c κs =
-    let m = c .before .before .before .before .before in
-    let r = tested m .before in
-    let p = opened-at r in
-    let k = p .prepare-light .result .conditions in
-    let e = ap (λ (x : Conditions). x .rows) (opened (light p) (bytes p) (p .prepare-light .result) (opening p) (clear r)) in
-    measured-ready k (p .prepare-light .ensures .sound) readingLimit (omega arith) (hostReadings (bytes p))
-    (measured m ∙ ap (λ (n : ℕ). measuredBy readingLimit n (k .x) (k .y) (k .z) (hostReadings (bytes p))) (sym e)) (c .before .before .measured .given .1)
-
-coloured : tie.Need-returns-4
+coloured : tie.Need-returns-3
 coloured c =
-    let m = c .before .before .before .before .before .before in
-    let t = tested m in
-    let p = opened-at (t .before) in
-    let lit = known (light p) (bytes p) (p .prepare-light .result) (opening p) (clear (t .before)) in
-    let k = opened (light p) (bytes p) (p .prepare-light .result) (opening p) (clear (t .before)) in
-    whole (light p) (bytes p) lit (full t) k (measured m) (c .before .before .before .measured .given .1) (c .colour-of .ensures)
+    let k = c .before in
+    let r = k .before .before .before in
+    let a = start r .args in
+    let full = k .before .before .if2 .left ∙ ap spectrumBytes (rows r) in
+    whole (a .light) (now (a .spectrum)) (lit r) full (r .before .told-by .ensures) (k .colour-through .ensures)
 
 pub colour-in-light-spec : {M : Type 1} → statement M
 colour-in-light-spec =
     tie.close
     (tie.spec
     (λ c κs. search needs)
+    refused-light
+    (λ c κs. search needs)
     (λ c κs. search needs)
     (λ c. search needs)
-    refused
+    refused-short
     (λ c. search needs)
-    (λ c κs. search needs)
-    (λ c. search needs)
-    short
-    (λ c. search needs)
-    (λ c. sym (places-length (c .before .before .before .rows-at .ensures .2)))
-    measure-bytes-requires
-    (λ c. search needs)
-    (λ c. search needs)
-    bright
-    colour-of-requires
+    (λ c. sym (places-length (c .before .before .rows-at .ensures .2)))
+    colour-through-requires
     coloured)

@@ -17,11 +17,11 @@ put-pair-requires-2 c κs =
 returns : tie.Need-returns
 returns c =
     let luv = c .before .before in
-    let t = luv .before .struct-told4 .given .1 .1 .1 in
+    let t = luv .before .struct-told4 .given .1 in
     let lab = luv .before .before .before .before .before .before in
     let l = lab .before .before .before .before .before .before in
     let s = l .before .before .before .before in
-    answer-put (s .args .out .now) (s .args .colour) (toZ-pos w32 (omega (arith, s .pre .0 .l)))
+    answer-put (s .args .out .now) (s .args .colour) (toZ-pos w32 (s .pre .0))
     (survives (t .0 .1)) (survives (t .1 .0 .1)) (survives (t .1 .1 .0 .1)) (survives (t .1 .1 .1 .0 .1))
     (l .write-i32 .ensures) (lab .put-pair .ensures) (luv .put-pair2 .ensures)
 

@@ -2,7 +2,7 @@
 use mathlib.Core.Path.{sym, ap, _∙_}
 use borrow.Author.Needs.{needs}
 use Rattle.host.specs.Host.{colouredAnswer}
-use Rattle.host.proofs.Answers.{found-sized, no-colour, no-room, written}
+use Rattle.host.proofs.Answers.{found-small, no-colour, no-room, written}
 use Rattle.host.proofs.shade_colour.Statement.{statement}
 use Rattle.host.proofs.shade_colour.Tie as tie
 
@@ -20,7 +20,7 @@ put-answer-requires c κs =
     let f = c .before .before .before in
     let k = f .before .before in
     let a = k .before .before .before .args in
-    (found-sized (a .light) (a .spectrum .now) _ (ap colouredAnswer (sym (f .found2 .given .1)) ∙ k .colour-in-light .ensures), c .before .if1 .left)
+    (found-small (a .light) (a .spectrum .now) _ (ap colouredAnswer (sym (f .found2 .given .1)) ∙ k .colour-in-light .ensures), c .before .if1 .left)
 
 returns-2 : tie.Need-returns-2
 returns-2 c =

@@ -1,43 +1,37 @@
 -- `listing::shade_under` meets its contract: a book's readings are spectra, so each has its colour. Assumes nothing.
-use mathlib.Core.Path.{_≡_, ap, _∙_}
+use mathlib.Core.Path.{sym, subst, ap, _∙_}
 use Prim.Native.Nat.{ℕ}
-use native.Mathlib.Omega.{arith}
+use denote.Ref.{now}
 use borrow.Author.Needs.{needs}
+use lib.ListN.{length}
+use Rattle.conditions.specs.declared.Conditions.{Conditions}
+use Rattle.conditions.specs.Conditions.{conditionsBy, Sound}
 use Rattle.conditions.specs.Measure.{colourUnder}
-use Rattle.book.specs.Book.{isBook, readingsOf, spectrumOf}
 use Rattle.listing.proofs.Lines.{spectrum-fair}
 use Rattle.listing.proofs.shade_under.Statement.{statement}
 use Rattle.listing.proofs.shade_under.Tie as tie
 
-spectrum-at-requires : tie.Need-spectrum-at-requires
-spectrum-at-requires c κs =
-    let s = c .before .before .before in
-    let p = s .pre in
-    (ap (λ (n : ℕ). isBook n (s .args .book .now)) (p .3) ∙ p .1, p .2, omega (arith, p .0 .few, p .3))
-
--- where the readings were read: what was given
+-- where the readings were read: what was given, and the conditions at a number of rows
 abbrev start : tie.After-spectrum-at → tie.Start
-start g = g .before .before .before .before
+start g = g .before .before .before .before .before .before .before
 
-read : (g : tie.After-spectrum-at) →
-    let s = start g in
-    let k = s .args .conditions in
-    g .spectrum-at .last .1 .1 .0 ≡ spectrumOf (k .rows) (readingsOf (k .rows) (s .args .book .now)) (s .args .i)
-read g =
-    let s = start g in
-    g .spectrum-at .ensures ∙ ap (λ (n : ℕ). spectrumOf n (readingsOf n (s .args .book .now)) (s .args .i)) (s .pre .3)
+abbrev conditions : tie.Start → ℕ → Conditions
+conditions s rows = conditionsBy rows (now (s .args .x)) (now (s .args .y)) (now (s .args .z)) (s .args .white)
 
-colour-under-requires : tie.Need-colour-under-requires
-colour-under-requires c κs =
+colour-by-requires : tie.Need-colour-by-requires
+colour-by-requires c κs =
     let g = c .before .before .before in
     let s = start g in
-    let p = s .pre in
-    (p .0, spectrum-fair (s .args .conditions .rows) (s .args .book .now) (s .args .i) (p .0 .few) (p .1) (g .spectrum-at .kept .1 .1 .0 ∙ p .3) (read g))
+    let sound = s .pre .0 in
+    let kept = g .spectrum-at .kept .1 .1 .0 in (
+      subst (λ (rows : ℕ). Sound (conditions s rows)) (sym kept) sound,
+      spectrum-fair (length (s .args .places .now)) (s .args .book .now) (s .args .i) (sound .few) (s .pre .1) kept (g .spectrum-at .ensures),
+    )
 
 returns : tie.Need-returns
 returns c =
     let g = c .before .before .before .before in
-    c .colour-under .ensures ∙ ap (colourUnder (start g .args .conditions)) (read g)
+    c .colour-by .ensures ∙ ap (colourUnder (conditions (start g) (length (start g .args .places .now)))) (g .spectrum-at .ensures)
 
 pub shade-under-spec : {M : Type 1} → statement M
-shade-under-spec = tie.close (tie.spec spectrum-at-requires colour-under-requires (λ c. search needs) returns)
+shade-under-spec = tie.close (tie.spec (λ c κs. search needs) colour-by-requires (λ c. search needs) returns)

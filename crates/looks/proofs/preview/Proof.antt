@@ -14,10 +14,10 @@ shown : {found case : TrialResult} {a : Numbered TrialOutcome} → found ≡ cas
 shown told e = ap (λ (r : TrialResult). mapped previewed (triedAnswer r)) (sym told) ∙ ap (mapped previewed) e
 
 returns : tie.Need-returns
-returns c = shown (c .before .trial .given .1) (c .before .before .before .tried .ensures)
+returns c = shown (c .before .found .given .1) (c .before .before .before .tried-under .ensures .0)
 
 returns-2 : tie.Need-returns-2
-returns-2 c = shown (c .before .cause .given .1) (c .before .before .before .tried .ensures)
+returns-2 c = shown (c .before .found2 .given .1) (c .before .before .before .tried-under .ensures .0)
 
 pub preview-spec : {M : Type 1} → statement M
 preview-spec = tie.close (tie.spec (λ c κs. search needs) (λ c. search needs) (λ c. search needs) returns returns-2)

@@ -1,9 +1,9 @@
--- `wide::product` meets its contract: the columns of the product by halves, with their carries, make up the product.
+-- `wide::product` meets its contract: the columns of the product by halves, with their carries, make up the product, and the lower word is
+-- the same by either sum.
 -- Assumes nothing.
 use borrow.Author.Needs.{needs}
 use native.Mathlib.Omega.{arith}
-use Prim.Native.Nat.{_^_}
-use Rattle.wide.proofs.Halves.{Halves, halves, whole}
+use Rattle.wide.proofs.Halves.{Halves, halves, by-words}
 use Rattle.wide.proofs.product.Statement.{statement}
 use Rattle.wide.proofs.product.Tie as tie
 
@@ -19,9 +19,10 @@ product-spec =
     (λ c. omega (arith, known c))
     (λ c. omega (arith, known c))
     (λ c. omega (arith, known c))
+    (λ c. search needs)
     (λ c. omega (arith, known c))
     (λ c. omega (arith, known c))
     (λ c. omega (arith, known c))
     (λ c. search needs)
-    (λ c. search needs)
-    (λ c. whole (2 ^ 32) (c .args .a) (c .args .b)))
+    (λ c κs. search needs)
+    (λ c. by-words (c .before .args .a) (c .before .args .b) (c .wrapping-add-u64 .ensures)))

@@ -1,60 +1,38 @@
--- `wide::quotient` meets its contract: each turn halves what is left between `lo`, which is not above the quotient, and a number above it.
--- Assumes nothing.
+-- `wide::quotient` meets its contract: what two comparisons show to be the quotient is the quotient, and so is what the search finds, whatever
+-- the guess. Assumes nothing.
 use borrow.Author.Needs.{needs}
-use borrow.Author.Tests.{le-leb, lt-leb}
-use mathlib.Core.Path.{refl}
-use native.Mathlib.Nat.{div-lt-self}
-use native.Mathlib.Omega.{arith}
-use Prim.Native.Nat.{_+_, _*_, _^_}
+use mathlib.Core.Bool.{Bool, true}
+use mathlib.Core.Path.{_≡_, sym, _∙_}
+use Prim.Native.Nat.{ℕ, _/_}
+use Rattle.wide.specs.Roots.{isLast, quotientBelow}
 use Rattle.wide.specs.Words.{value}
-use Rattle.wide.proofs.Halves.{times-below}
-use Rattle.wide.proofs.Search.{Between, mid-below, upper-half, lower-half, lo-below, between-last, quotientBelow, last-quotient}
+use Rattle.wide.proofs.Search.{last-shown, last-quotient}
 use Rattle.wide.proofs.quotient.Statement.{statement}
 use Rattle.wide.proofs.quotient.Tie as tie
 
-abbrev Inv-loop : tie.InvT-loop
-Inv-loop n d lo₀ half₀ lo half = Between (quotientBelow (value n) (value d)) (2 ^ 26) lo half
+shown : (n d q : ℕ) {b : Bool} → b ≡ isLast (quotientBelow n d) q → b ≡ true → q ≡ n / d
+shown n d q e f = last-quotient n d q (last-shown (quotientBelow n d) q (sym e ∙ f))
 
-abbrev μ-loop : tie.MeasureT-loop
-μ-loop n d lo₀ half₀ lo half = half
-
-loop-holds : tie.Need-loop-holds Inv-loop μ-loop
-loop-holds c =
-    let n = value (c .args .n) in
-    let d = value (c .args .d) in
-    record { turns = 26; halved = refl; within = search needs; holds = le-leb (0 * d) n (omega arith); fails = lt-leb (2 ^ 26 * d) n (c .pre .1) }
-
-times-requires : tie.Need-times-requires Inv-loop μ-loop
-times-requires c κs =
-    let l = c .before .loop in
-    let s = c .before .before in
-    times-below (2 ^ 26) (2 ^ 102) (l .lo + l .half) (value (s .args .d)) (mid-below (l .inv) (search needs)) (s .pre .0)
-
-loop-again : tie.Need-loop-again Inv-loop μ-loop
-loop-again c = upper-half (c .before .before .before .before .loop .inv) (search needs) cc
-
-loop-again-2 : tie.Need-loop-again-2 Inv-loop μ-loop
-loop-again-2 c = lower-half (c .before .before .before .before .loop .inv) (search needs) cc
-
-returns : tie.Need-returns Inv-loop μ-loop
+returns : tie.Need-returns
 returns c =
-    let p = c .before .before .args in
-    let b = c .before .loop .inv in
-    (last-quotient (value (p .n)) (value (p .d)) (c .before .loop .lo) (between-last b (search needs)), lo-below b)
+    let a = c .before .before .before .args in
+    (shown (value (a .n)) (value (a .d)) _ (c .before .is-quotient .ensures) (c .if1 .taken), search needs)
+
+returns-2 : tie.Need-returns-2
+returns-2 c =
+    let a = c .before .before .before .before .before .before .args in
+    (shown (value (a .n)) (value (a .d)) _ (c .before .is-quotient2 .ensures) (c .if3 .taken), search needs)
 
 pub quotient-spec : {M : Type 1} → statement M
 quotient-spec =
     tie.close
     (tie.spec
-    Inv-loop
-    μ-loop
-    loop-holds
-    (λ c. omega (arith, mid-below (c .before .loop .inv) (search needs)))
-    (λ c. omega (arith, mid-below (c .before .loop .inv) (search needs)))
-    times-requires
     (λ c κs. search needs)
-    (λ c. div-lt-self (search needs) (search needs))
-    loop-again
-    (λ c. div-lt-self (search needs) (search needs))
-    loop-again-2
-    returns)
+    (λ c κs. search needs)
+    returns
+    (λ c. search needs)
+    (λ c κs. search needs)
+    (λ c. search needs)
+    returns-2
+    (λ c κs. search needs)
+    (λ c. search needs))

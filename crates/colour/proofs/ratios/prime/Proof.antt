@@ -2,6 +2,7 @@
 use mathlib.Core.Path.{ap, _∙_}
 use Prim.Native.Nat.{ℕ, _/_}
 use native.Mathlib.Nat.{mul-assoc}
+use native.Mathlib.Omega.{arith}
 use borrow.Author.Needs.{needs}
 use Rattle.wide.specs.Words.{value}
 use Rattle.cie.specs.Colour.{primeScale}
@@ -10,7 +11,7 @@ use Rattle.colour.proofs.ratios.prime.Statement.{statement}
 use Rattle.colour.proofs.ratios.prime.Tie as tie
 
 ratio-requires : tie.Need-ratio-requires
-ratio-requires c κs = let p = c .pre in (p .2, prime-small (c .args .k) (c .args .n) _ (p .1) (p .3))
+ratio-requires c κs = let p = c .pre in (omega (arith, p .0), p .2, prime-small (c .args .k) (c .args .n) _ (p .1) (p .3))
 
 returns : tie.Need-returns
 returns c =

@@ -2,7 +2,7 @@
 -- Assumes nothing.
 use borrow.Author.Needs.{needs}
 use native.Mathlib.Omega.{arith}
-use Rattle.wide.proofs.Halves.{half-product}
+use Rattle.guesses.proofs.Products.{half-product}
 use Rattle.wide.proofs.roots.square_at_most.Statement.{statement}
 use Rattle.wide.proofs.roots.square_at_most.Tie as tie
 

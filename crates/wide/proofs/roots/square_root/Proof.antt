@@ -1,51 +1,27 @@
--- `wide::roots::square_root` meets its contract: each turn halves what is left between `lo`, which is not above the root, and a number above it.
--- Assumes nothing.
+-- `wide::roots::square_root` meets its contract: what two comparisons show to be the root is the root, and so is what the search finds,
+-- whatever the guess. Assumes nothing.
 use borrow.Author.Needs.{needs}
-use borrow.Author.Tests.{le-leb, lt-leb}
-use mathlib.Core.Path.{refl}
-use native.Mathlib.Nat.{div-lt-self}
-use native.Mathlib.Omega.{arith}
-use Prim.Native.Nat.{_*_, _^_}
-use Rattle.wide.proofs.Search.{Between, mid-below, upper-half, lower-half, between-last, squareBelow, last-square}
+use mathlib.Core.Bool.{Bool, true}
+use mathlib.Core.Path.{_≡_, sym, _∙_}
+use Prim.Native.Nat.{ℕ}
+use Rattle.wide.specs.Roots.{isLast, squareBelow, squareRoot}
+use Rattle.wide.proofs.Search.{last-shown, last-square}
 use Rattle.wide.proofs.roots.square_root.Statement.{statement}
 use Rattle.wide.proofs.roots.square_root.Tie as tie
 
-abbrev Inv-loop : tie.InvT-loop
-Inv-loop n lo₀ half₀ lo half = Between (squareBelow n) (2 ^ 32) lo half
-
-abbrev μ-loop : tie.MeasureT-loop
-μ-loop n lo₀ half₀ lo half = half
-
-loop-holds : tie.Need-loop-holds Inv-loop μ-loop
-loop-holds c =
-    record {
-      turns = 32;
-      halved = refl;
-      within = search needs;
-      holds = le-leb 0 (c .args .n) (omega arith);
-      fails = lt-leb (2 ^ 32 * 2 ^ 32) (c .args .n) (omega arith);
-    }
-
-loop-again : tie.Need-loop-again Inv-loop μ-loop
-loop-again c = upper-half (c .before .before .before .loop .inv) (search needs) cc
-
-loop-again-2 : tie.Need-loop-again-2 Inv-loop μ-loop
-loop-again-2 c = lower-half (c .before .before .before .loop .inv) (search needs) cc
-
-returns : tie.Need-returns Inv-loop μ-loop
-returns c = last-square (c .before .before .args .n) (c .before .loop .lo) (between-last (c .before .loop .inv) (search needs))
+shown : (n p : ℕ) {b : Bool} → b ≡ isLast (squareBelow n) p → b ≡ true → p ≡ squareRoot n
+shown n p e f = last-square n p (last-shown (squareBelow n) p (sym e ∙ f))
 
 pub square-root-spec : {M : Type 1} → statement M
 square-root-spec =
     tie.close
     (tie.spec
-    Inv-loop
-    μ-loop
-    loop-holds
-    (λ c. omega (arith, mid-below (c .before .loop .inv) (search needs)))
     (λ c κs. search needs)
-    (λ c. div-lt-self (search needs) (search needs))
-    loop-again
-    (λ c. div-lt-self (search needs) (search needs))
-    loop-again-2
-    returns)
+    (λ c κs. search needs)
+    (λ c. shown _ _ (c .before .is-square-root .ensures) (c .if1 .taken))
+    (λ c. search needs)
+    (λ c κs. search needs)
+    (λ c. search needs)
+    (λ c. shown _ _ (c .before .is-square-root2 .ensures) (c .if3 .taken))
+    (λ c κs. search needs)
+    (λ c. search needs))

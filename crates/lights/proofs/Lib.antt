@@ -1,0 +1,2 @@
+pub mod LightRows
+pub mod LightWhites
