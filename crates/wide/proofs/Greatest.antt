@@ -6,7 +6,7 @@ use native.Mathlib.Omega.{arith}
 use native.Mathlib.Nat.{mul-le-mul, mul-le-mul-left, mul-le-mul-right, lt-of-not-le, lt-of-le-of-lt, lt-div-mul-add, le-antisymm, le-of-suc-le-suc}
 use native.Mathlib.Decide.{decLe}
 use lib.Dec.{T, leb, leb→le, le→leb, nleb→lt, not-T}
-use Rattle.wide.specs.Roots.{Last, nextBit, climb, greatest, squareRoot, cubeRoot}
+use Rattle.wide.specs.Roots.{Last, nextBit, climb, greatest, squareBelow, cubeBelow, squareRoot, cubeRoot}
 
 -- ── the greatest number that passes a test ──
 
@@ -56,10 +56,10 @@ cube-lt p q D h = elim (decLe q p) [ yes x ↦ absurd (omega (arith, cube-le D x
 pub squareRoot-floor : (n : ℕ) → (squareRoot n * squareRoot n ≤ n) × (n < suc (squareRoot n) * suc (squareRoot n))
 unfolding squareRoot
 squareRoot-floor n =
-    let l = greatest-last (λ p. leb (p * p) n) n (le→leb 0 n (omega arith)) up in
+    let l = greatest-last (squareBelow n) n (le→leb 0 n (omega arith)) up in
     (leb→le _ _ (l .passes), nleb→lt _ _ (l .stops))
   where
-    up : (p : ℕ) → T (leb (p * p) n) → p ≤ n
+    up : (p : ℕ) → T (squareBelow n p) → p ≤ n
     up zero x = omega arith
     up (suc p) x = omega (arith, leb→le (suc p * suc p) n x)
 
@@ -75,10 +75,10 @@ pub cubeRoot-floor : (K N D : ℕ) → 0 < D →
     × (K * K * K * N < suc (cubeRoot K N D) * suc (cubeRoot K N D) * suc (cubeRoot K N D) * D)
 unfolding cubeRoot
 cubeRoot-floor K N D d =
-    let l = greatest-last (λ p. leb (p * p * p * D) (K * K * K * N)) (K * suc (N / D)) (le→leb (0 * 0 * 0 * D) (K * K * K * N) (omega arith)) up in
+    let l = greatest-last (cubeBelow D (K * K * K * N)) (K * suc (N / D)) (le→leb (0 * 0 * 0 * D) (K * K * K * N) (omega arith)) up in
     (leb→le _ _ (l .passes), nleb→lt _ _ (l .stops))
   where
-    up : (p : ℕ) → T (leb (p * p * p * D) (K * K * K * N)) → p ≤ K * suc (N / D)
+    up : (p : ℕ) → T (cubeBelow D (K * K * K * N) p) → p ≤ K * suc (N / D)
     up p x = omega (
       arith,
       cube-lt p (suc (K * suc (N / D))) D

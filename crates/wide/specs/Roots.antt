@@ -25,15 +25,7 @@ climb (suc fuel) t top = elim (leb 1 top) [ true ↦ nextBit t (climb fuel (λ p
 unfoldable pub greatest : (ℕ → Bool) → ℕ → ℕ
 greatest t top = climb top t top
 
--- the square root of n, down
-unfoldable pub squareRoot : ℕ → ℕ
-squareRoot n = greatest (λ p. leb (p * p) n) n
-
--- K times the cube root of N / D, down, "decided by comparing cubes": p is at most that when p³ D ≤ K³ N
-unfoldable pub cubeRoot : ℕ → ℕ → ℕ → ℕ
-cubeRoot K N D = greatest (λ p. leb (p * p * p * D) (K * K * K * N)) (K * suc (N / D))
-
--- the tests that decide a quotient or a root: q is at most n / d
+-- q is at most n / d
 abbrev pub quotientBelow : (n d : ℕ) → ℕ → Bool
 quotientBelow n d q = leb (q * d) n
 
@@ -41,6 +33,14 @@ quotientBelow n d q = leb (q * d) n
 abbrev pub squareBelow : ℕ → ℕ → Bool
 squareBelow n p = leb (p * p) n
 
--- p is at most the cube root of aim / d
+-- p is at most the cube root of aim / d, "decided by comparing cubes"
 abbrev pub cubeBelow : (d aim : ℕ) → ℕ → Bool
 cubeBelow d aim p = leb (p * p * p * d) aim
+
+-- the square root of n, down
+unfoldable pub squareRoot : ℕ → ℕ
+squareRoot n = greatest (squareBelow n) n
+
+-- K times the cube root of N / D, down: p is at most that when p³ D ≤ K³ N
+unfoldable pub cubeRoot : ℕ → ℕ → ℕ → ℕ
+cubeRoot K N D = greatest (cubeBelow D (K * K * K * N)) (K * suc (N / D))
