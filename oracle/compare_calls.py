@@ -9,6 +9,7 @@ from chance import Chance
 from expect import Difference, expect
 from full_session import FullSession
 from ledger import INSPECTION_TABLES, VERDICTS, Preview
+from ordered import check_order, lists_of_note, ordered_list, random_list
 from tables import LENGTHS
 
 
@@ -23,25 +24,27 @@ def compare_answers(name, steps, got):
 
 
 def compare_list(built, name, made, script):
-    """A list's verdicts by the exact difference, then its answers by the program."""
+    """A list's verdicts by the exact difference, then its answers by the program, then the order of
+    its colours. Returns how many pairs of spectra were in order."""
     if made.misjudged:
         step = made.misjudged[0]
         raise Difference(f"{name}, line {step.number}: the exact difference does not bear out "
                          f"{step.answer}")
     compare_answers(name, made.steps, built.replay(script))
+    return check_order(name, made.measured)
 
 
 def compare_lists(built, seed, count):
-    """Returns the lists' steps by name, and how often each verdict came where and how many of them
-    were previews."""
-    lists, verdicts, previews = {}, Counter(), 0
+    """Returns the lists' steps by name, how often each verdict came where and how many of them were
+    previews, and how many pairs of spectra were in order."""
+    lists, verdicts, pairs, previews = {}, Counter(), Counter(), 0
     for index in range(count):
         name, made = f"list, seed {seed}, index {index}", fresh.call_list(seed * 1_000_003 + index)
-        compare_list(built, name, made, made.script())
+        pairs += compare_list(built, name, made, made.script())
         lists[name] = made.steps
         verdicts.update(made.judged)
         previews += sum(isinstance(step.result, Preview) for step in made.steps)
-    return lists, f"{told(verdicts)}; previews among them {previews}"
+    return lists, f"{told(verdicts)}; previews among them {previews}", pairs
 
 
 def told(judged):
@@ -59,16 +62,30 @@ def told(judged):
 
 
 def compare_orders(built, seed, count):
-    """The same trials in other orders end in the same tallies. Returns the lists' steps by name."""
-    lists = {}
+    """The same trials in other orders end in the same tallies. Returns the lists' steps by name,
+    and how many pairs of spectra were in order."""
+    lists, pairs = {}, Counter()
     for index in range(count):
         name, ends = f"trials in orders, seed {seed}, index {index}", []
         for place, made in enumerate(fresh.reordered(seed * 1_000_003 + index)):
-            compare_list(built, f"{name}, order {place}", made, made.script())
+            pairs += compare_list(built, f"{name}, order {place}", made, made.script())
             lists[f"{name}, order {place}"] = made.steps
             ends.append(made.steps[-1].answer)
             expect(f"{name}, order {place}: the report", ends[0], ends[-1])
-    return lists
+    return lists, pairs
+
+
+def compare_ordered(built, seed, count):
+    """Lists of spectra in order. Returns their steps by name, and how many pairs were in order."""
+    given = list(lists_of_note())
+    given += [(f"spectra in order, seed {seed}, index {index}",
+               *random_list(seed * 1_000_003 + index)) for index in range(count)]
+    lists, pairs = {}, Counter()
+    for name, opened, spectra in given:
+        made = ordered_list(opened, spectra)
+        pairs += compare_list(built, name, made, made.script())
+        lists[name] = made.steps
+    return lists, pairs
 
 
 def compare_runs(built, seed, lists):

@@ -1,10 +1,10 @@
 """Fresh random lists of calls, with what the ledger answers."""
 
-from collections import Counter
+from collections import Counter, namedtuple
 
 import exact
 from chance import Chance
-from colour import colour, difference
+from colour import Colour, colour, difference
 from inspection import old_trials
 from ledger import GUARD, INSPECTION_TABLES, Ledger, Preview, Trial
 from lines import (
@@ -14,7 +14,7 @@ from lines import (
 )
 from near_limit import near_the_limit
 from published import flat, three_rows
-from replay import Step, answer, at_table
+from replay import READING_BITS, Step, answer, at_table, whole_table
 from spacings import old_openings
 from tables import LENGTHS
 from unreadable import unreadable
@@ -23,6 +23,8 @@ LIGHT_WORDS = (1, 2, 1, 2, 1, 2, 0, 3, "02", 2**32 - 1, 2**32 + 1, TOO_LARGE)
 SPACING_WORDS = {5: (5, 5, 5, "05"), 10: (10, 10, 10, "00010")}
 BAD_READINGS = (20_001, 40_000, 65_535, 65_536, TOO_LARGE)
 BAD_ENTRIES = (2_000_001, 3_000_001, 2**32, TOO_LARGE)
+
+Measured = namedtuple("Measured", "conditions spectrum colour")
 
 
 class CallList:
@@ -33,6 +35,7 @@ class CallList:
         self.ledger = Ledger()
         self.lines, self.steps, self.misjudged = [], [], []
         self.judged = Counter()  # trials and previews, by verdict, spacing and inspection table
+        self.measured = []  # the spectra that were accepted
 
     def say(self, line):
         self.lines.append(line)
@@ -40,12 +43,19 @@ class CallList:
             return
         step = Step(len(self.lines), line, *answer(self.ledger, line))
         self.steps.append(step)
+        words = line.split(b" ")[1:]
+        if isinstance(step.result, Colour):
+            self.measure(whole_table(words, READING_BITS), step.result)
         if isinstance(step.result, (Trial, Preview)):
-            self.weigh(step)
+            table_number, spectrum = at_table(words)
+            self.measure(spectrum, step.result.colour)
+            self.weigh(step, table_number, spectrum)
 
-    def weigh(self, step):
+    def measure(self, spectrum, own):
+        self.measured.append(Measured(self.ledger.conditions, spectrum, own))
+
+    def weigh(self, step, table_number, spectrum):
         """Counts a verdict; it is misjudged unless the exact difference bears it out."""
-        table_number, spectrum = at_table(step.line.split(b" ")[1:])
         held, verdict = self.ledger, step.result.verdict
         self.judged[verdict, held.conditions.spacing, table_number] += 1
         if not exact.verdict_holds(

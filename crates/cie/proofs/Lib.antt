@@ -4,6 +4,8 @@ pub mod Scales
 pub mod TableRows
 pub mod Lengths
 pub mod Steps
+pub mod Across
+pub mod Ordered
 pub mod Whites
 pub mod Sizes
 pub mod Rule

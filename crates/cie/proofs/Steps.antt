@@ -3,12 +3,12 @@ use mathlib.Core.Path.{_≡_, refl}
 use mathlib.Core.Bool.{Bool, true, false}
 use Prim.Native.Nat.{ℕ, suc, _+_, _*_, _/_, _≤_, _<_}
 use native.Mathlib.Omega.{arith}
-use native.Mathlib.Nat.{mul-assoc, add-sub-cancel, mul-le-mul-left, mul-lt-mul-of-pos-right, lt-of-le-of-lt, le-of-suc-le-suc}
+use native.Mathlib.Nat.{mul-assoc, add-sub-cancel, mul-le-mul-left, mul-lt-mul-of-pos-right, le-of-suc-le-suc}
 use native.Mathlib.Nat.{mul-div-mul-left, add-mul-div-right, div-lt-iff-lt-mul, le-div-iff-mul-le}
 use lib.Dec.{lit<}
 use borrow.Author.Tests.{ltb-true, ltb-false}
 use Rattle.wide.specs.Roots.{cubeRoot}
-use Rattle.wide.proofs.Greatest.{cube-lt, cubeRoot-floor}
+use Rattle.wide.proofs.Greatest.{cube-lt, cubeRoot-floor, cubeRoot-above}
 use Rattle.wide.proofs.Scaling.{Scales, cubeRoot-scales, div-scales, sub-scales}
 use Rattle.cie.specs.Colour.{limitOver, limitUnder, bright, offset, gain, straightOver, straightUnder, fAt}
 use Rattle.cie.specs.Colour.{stepScale, stepAt, lightnessScale, lightnessAt}
@@ -53,10 +53,8 @@ no-loss M N D d = go (bright N D) refl
 
     go : (b : Bool) → bright N D ≡ b → M * (lightnessScale * offset) ≤ fAt K N D
     go true e =
-        rw e (le-of-suc-le-suc (cube-lt (M * (lightnessScale * offset)) (suc (cubeRoot K N D)) D
-        (lt-of-le-of-lt
-        (omega (arith, mul-le-mul-left (M * M * M) (ltb-true (limitOver * D) (limitUnder * N) e)))
-        ((cubeRoot-floor K N D d) .1))))
+        rw e (cubeRoot-above K N D (M * (lightnessScale * offset)) d
+        (omega (arith, mul-le-mul-left (M * M * M) (ltb-true (limitOver * D) (limitUnder * N) e))))
     go false e = rw e (le-div-iff-mul-le {k = straightUnder D} {x = M * (lightnessScale * offset)} {y = K * straightOver N D} (omega arith) .1 (omega arith))
 
 -- at and below the limit L* is 24389/27 × Y/Yn

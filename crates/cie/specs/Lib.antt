@@ -4,6 +4,7 @@ pub mod Tables
 pub mod Sums
 pub mod Lights
 pub mod Colour
+pub mod Brighter
 pub mod Sizes
 pub mod Exact
 pub mod Verdict

@@ -10,4 +10,5 @@ pub mod Claim
 pub mod Looks
 pub mod Steps
 pub mod ByTable
+pub mod Brighter
 pub mod OrderTells

@@ -1,6 +1,6 @@
 -- Document 02, "Tallies by inspection table": what is claimed of the tables' tallies, beside the claim about every list. Assumes nothing.
 use mathlib.Core.Path.{_≡_}
-use mathlib.Core.List.{List, [], _∷_, List·Permᴰ}
+use mathlib.Core.List.{List, [], _∷_, map, List·Permᴰ}
 use Prim.Native.Nat.{ℕ, _<_}
 use Rattle.causes.specs.declared.Cause.the-variants.{SessionFull}
 use Rattle.causes.specs.Causes.{causeNumber}
@@ -12,6 +12,7 @@ use Rattle.session.specs.declared.Session.{Session}
 use Rattle.session.specs.Call.{Call, trial, look}
 use Rattle.session.specs.Outcome.{refused}
 use Rattle.session.specs.Served.{served, Valid}
+use Rattle.session.specs.Claim.{sessionAfter}
 
 -- the set of tallies that a session has for a table
 abbrev pub talliesFor : Session → ℕ → Tallies
@@ -34,8 +35,7 @@ trialCall t = trial (t .table) (t .readings)
 
 -- "from the same session, trials made under the same settings": one after the other, with no other call between them
 abbrev pub afterTrials : Session → List Trial → Session
-afterTrials s [] = s
-afterTrials s (t ∷ ts) = afterTrials (served s (trialCall t) .session) ts
+afterTrials s ts = sessionAfter s (map trialCall ts)
 
 -- "reordered in any way": every permutation, as the library has it
 abbrev pub Reordered : List Trial → List Trial → Type 0

@@ -25,6 +25,11 @@ abbrev pub outcomesFrom : Session → List Call → List Outcome
 outcomesFrom s [] = []
 outcomesFrom s (c ∷ cs) = served s c .outcome ∷ outcomesFrom (served s c .session) cs
 
+-- the session that the last call of a list returned or, when refused, left
+abbrev pub sessionAfter : Session → List Call → Session
+sessionAfter s [] = s
+sessionAfter s (c ∷ cs) = sessionAfter (served s c .session) cs
+
 -- a call of a list with its outcome; the history of a call are those before it, the latest first
 pub record Event : Type 0 where
   pub call : Call

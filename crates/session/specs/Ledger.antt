@@ -152,7 +152,11 @@ entered l (trial table readings) = countedAt l table (triedAt l table readings)
 entered l report = record { ledger = l; outcome = counted (record { sets = l .counts }) }
 entered l (look k) = seenAt l (lookedAt l k)
 
--- the outcomes of a list of calls, by the ledger
+-- the outcomes of a list of calls, by the ledger, and the ledger after it
 abbrev pub outcomesAt : Ledger → List Call → List Outcome
 outcomesAt l [] = []
 outcomesAt l (c ∷ cs) = entered l c .outcome ∷ outcomesAt (entered l c .ledger) cs
+
+abbrev pub ledgerAfter : Ledger → List Call → Ledger
+ledgerAfter l [] = l
+ledgerAfter l (c ∷ cs) = ledgerAfter (entered l c .ledger) cs

@@ -8,3 +8,4 @@ pub mod Meets
 pub mod Claim
 pub mod Looks
 pub mod ByTable
+pub mod Brighter

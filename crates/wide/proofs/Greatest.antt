@@ -85,9 +85,10 @@ cubeRoot-floor K N D d =
           (omega (arith, leb→le (p * p * p * D) (K * K * K * N) x, mul-le-mul-left (K * K * K) (lt-div-mul-add {a = N} d))),
     )
 
+-- it is at least each number whose cube passes
+pub cubeRoot-above : (K N D p : ℕ) → 0 < D → p * p * p * D ≤ K * K * K * N → p ≤ cubeRoot K N D
+cubeRoot-above K N D p d h = le-of-suc-le-suc (cube-lt p (suc (cubeRoot K N D)) D (lt-of-le-of-lt h (cubeRoot-floor K N D d .1)))
+
 pub cubeRoot-is : (K N D p : ℕ) → 0 < D → p * p * p * D ≤ K * K * K * N → K * K * K * N < suc p * suc p * suc p * D → cubeRoot K N D ≡ p
 cubeRoot-is K N D p d h k =
-    let f = cubeRoot-floor K N D d in
-    le-antisymm
-    (le-of-suc-le-suc (cube-lt (cubeRoot K N D) (suc p) D (lt-of-le-of-lt (f .0) k)))
-    (le-of-suc-le-suc (cube-lt p (suc (cubeRoot K N D)) D (lt-of-le-of-lt h (f .1))))
+    le-antisymm (le-of-suc-le-suc (cube-lt (cubeRoot K N D) (suc p) D (lt-of-le-of-lt (cubeRoot-floor K N D d .0) k))) (cubeRoot-above K N D p d h)
