@@ -6,6 +6,7 @@ use Prim.Native.Nat.{ℕ, suc, _*_, _/_, _≤_, _<_}
 use native.Mathlib.Omega.{arith}
 use native.Mathlib.Nat.{mul-le-mul-left, mul-le-mul-right, div-mul-le-self, le-div-iff-mul-le, le-trans}
 use borrow.Author.Tests.{ltb-true, ltb-false}
+use lib.ListN.{length, getD}
 use Rattle.wide.specs.Roots.{cubeRoot}
 use Rattle.wide.proofs.Greatest.{cubeRoot-floor, cubeRoot-above}
 use Rattle.cie.specs.Sums.{Tables, rowSum, sumsOf, whiteOf}
@@ -33,20 +34,20 @@ lightness-rises : (M N P D : ℕ) → 0 < D → N ≤ P → lightnessAt M N D �
 unfolding lightnessAt
 lightness-rises M N P D d h = omega (arith, f-rises (M * (lightnessScale * gain)) D d N P h)
 
--- nor does the sum over the rows
-row-sum-rises : (rs qs is cs : List ℕ) → NoneHigher rs qs → rowSum rs is cs ≤ rowSum qs is cs
+-- readings at most k times those, row by row, give sums at most k times those
+pub row-sum-times : (k : ℕ) (rs qs is cs : List ℕ) → ((row : ℕ) → row < length is → getD rs row 0 ≤ k * getD qs row 0) → rowSum rs is cs ≤ k * rowSum qs is cs
 unfolding rowSum
-row-sum-rises [] qs is cs h = omega arith
-row-sum-rises (r ∷ rs) qs [] cs h = omega arith
-row-sum-rises (r ∷ rs) qs (i ∷ is) [] h = omega arith
-row-sum-rises (r ∷ rs) [] (i ∷ is) (c ∷ cs) h =
-    omega (arith, mul-le-mul-right c (mul-le-mul-right i (h 0)), row-sum-rises rs [] is cs (λ row. omega (arith, h (suc row))))
-row-sum-rises (r ∷ rs) (q ∷ qs) (i ∷ is) (c ∷ cs) h =
-    omega (arith, mul-le-mul-right c (mul-le-mul-right i (h 0)), row-sum-rises rs qs is cs (λ row. h (suc row)))
+row-sum-times k [] qs is cs h = omega arith
+row-sum-times k (r ∷ rs) qs [] cs h = omega arith
+row-sum-times k (r ∷ rs) qs (i ∷ is) [] h = omega arith
+row-sum-times k (r ∷ rs) [] (i ∷ is) (c ∷ cs) h =
+    omega (arith, mul-le-mul-right c (mul-le-mul-right i (h 0 (omega arith))), row-sum-times k rs [] is cs (λ row j. h (suc row) (omega arith)))
+row-sum-times k (r ∷ rs) (q ∷ qs) (i ∷ is) (c ∷ cs) h =
+    omega (arith, mul-le-mul-right c (mul-le-mul-right i (h 0 (omega arith))), row-sum-times k rs qs is cs (λ row j. h (suc row) (omega arith)))
 
 module _ (t : Tables) (first second : List ℕ) (d : 0 < whiteOf t .y) (h : NoneHigher first second) where
   sum-rises : (column : List ℕ) → rowSum first (t .illuminant) column ≤ rowSum second (t .illuminant) column
-  sum-rises column = row-sum-rises first second (t .illuminant) column h
+  sum-rises column = omega (arith, row-sum-times 1 first second (t .illuminant) column (λ row j. omega (arith, h row)))
 
   pub colours-rise : NoBrighter (colourAt t first) (colourAt t second)
   unfolding colourOf tristimulusOf sumsOf

@@ -4,7 +4,7 @@ use mathlib.Core.Bool.{false}
 use mathlib.Core.List.{List, [], _∷_, _++_}
 use Prim.Native.Nat.{ℕ, zero, suc, _+_, _-_, _*_, _^_, _≤_, _<_}
 use native.Mathlib.Omega.{arith}
-use native.Mathlib.Nat.{mul-le-mul, mul-le-mul-right, mul-assoc}
+use native.Mathlib.Nat.{mul-le-mul, mul-assoc}
 use native.Mathlib.Numerals.{add-one}
 use lib.ListN.{length, getD, drop, replicate, getD-replicate}
 use lib.Seq.{drop-cons, drop-length}
@@ -13,8 +13,8 @@ use Rattle.cie.specs.Spacing.{mostRows, filled}
 use Rattle.cie.specs.Scales.{readingLimit, whiteReading, illuminantLimit, columnLimit, anyAbove}
 use Rattle.cie.specs.Sums.{Tables, rowSum, sumsOf, whiteOf, withRow, AtMostTwice}
 use Rattle.cie.proofs.Scales.{below}
+use Rattle.cie.proofs.Ordered.{row-sum-times}
 use Rattle.conditions.specs.Weights.{productsOf, weightsOf, dot, dots, Spectrum, Weights, rowLimit, Summed, Begun}
-use Rattle.conditions.proofs.Products.{products-short}
 
 -- ── the paper's sums ──
 
@@ -126,36 +126,30 @@ module _ {rs x y z : List ℕ} where
 
 -- ── how readings bound sums ──
 
--- readings at most k times those, row by row, give sums at most k times those
-pub dot-times : (k : ℕ) (rs qs ws : List ℕ) → ((i : ℕ) → i < length ws → getD rs i 0 ≤ k * getD qs i 0) → dot rs ws ≤ k * dot qs ws
-unfolding dot
-dot-times k [] qs ws h = omega arith
-dot-times k (r ∷ rs) qs [] h = omega arith
-dot-times k (r ∷ rs) [] (w ∷ ws) h =
-    omega (arith, mul-le-mul-right w (h 0 (omega arith)), dot-times k rs [] ws (λ i j. h (suc i) (omega arith)))
-dot-times k (r ∷ rs) (q ∷ qs) (w ∷ ws) h =
-    omega (arith, mul-le-mul-right w (h 0 (omega arith)), dot-times k rs qs ws (λ i j. h (suc i) (omega arith)))
+-- a sum by weights is one over the rows, by a column of ones
+dot-sum : (rs ws : List ℕ) → dot rs ws ≡ rowSum rs ws (replicate (length ws) 1)
+unfolding dot rowSum
+dot-sum [] ws = refl
+dot-sum (r ∷ rs) [] = refl
+dot-sum (r ∷ rs) (w ∷ ws) = omega (arith, dot-sum rs ws)
 
 -- no reading above 20,000: twice the white's, over any number of rows
+row-sum-twice : (n : ℕ) (rs is cs : List ℕ) → length is ≤ n → anyAbove readingLimit rs ≡ false →
+    rowSum rs is cs ≤ 2 * rowSum (replicate n whiteReading) is cs
+row-sum-twice n rs is cs l h =
+    row-sum-times 2 rs (replicate n whiteReading) is cs
+    (λ row j. omega (arith, below readingLimit rs row h, getD-replicate n row whiteReading 0 (omega arith)))
+
 pub twice : (n : ℕ) (rs ws : List ℕ) → length ws ≤ n → anyAbove readingLimit rs ≡ false → dot rs ws ≤ 2 * dot (replicate n whiteReading) ws
 twice n rs ws l h =
-    dot-times 2 rs (replicate n whiteReading) ws
-    (λ i j. omega (arith, below readingLimit rs i h, getD-replicate n i whiteReading 0 (omega arith)))
-
-row-sum-twice : (rs is cs : List ℕ) → anyAbove readingLimit rs ≡ false → rowSum rs is cs ≤ 2 * rowSum (replicate (length is) whiteReading) is cs
-row-sum-twice rs is cs h =
-    omega (
-      arith,
-      twice (length is) rs (productsOf is cs) (products-short is cs) h,
-      products-sum rs is cs,
-      products-sum (replicate (length is) whiteReading) is cs,
-    )
+    omega (arith, row-sum-twice n rs ws (replicate (length ws) 1) l h, dot-sum rs ws, dot-sum (replicate n whiteReading) ws)
 
 pub at-most-twice : (t : Tables) (readings : List ℕ) → anyAbove readingLimit readings ≡ false → AtMostTwice (whiteOf t) (sumsOf t readings)
 unfolding sumsOf whiteOf
 at-most-twice t readings h =
+    let is = t .illuminant in
     record {
-      x = row-sum-twice readings (t .illuminant) (t .x) h;
-      y = row-sum-twice readings (t .illuminant) (t .y) h;
-      z = row-sum-twice readings (t .illuminant) (t .z) h;
+      x = row-sum-twice (length is) readings is (t .x) (omega arith) h;
+      y = row-sum-twice (length is) readings is (t .y) (omega arith) h;
+      z = row-sum-twice (length is) readings is (t .z) (omega arith) h;
     }
