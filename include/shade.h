@@ -21,7 +21,8 @@ extern "C" {
  *
  * spectrum: 81 readings, 380 to 780 nm by 5 nm, or 41 by 10 nm, 2 bytes each,
  *           little-endian; spectrum_len, 162 or 82, tells which. A reading is
- *           a reflectance in 1/10,000, from 0 to 20,000.
+ *           a reflectance in 1/10,000, from 0 to 20,000, as in a shade book.
+ *           (The frame stops at 12,000: there a brighter shade is refused.)
  * out:      L, a, b, u, v in 1/10,000, signed, 4 bytes each, little-endian,
  *           by GB/T 7921-1997 with the constants of CIE 15:2004.
  *

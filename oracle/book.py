@@ -1,6 +1,8 @@
 """The shade book: writing, the rules of a book, reading one shade."""
 
-from ledger import OVER_BRIGHT, READING_LIMIT, SHORT_TABLE, refuse_when, spacing_check
+from ledger import (
+    FRAME_LIMIT, OVER_BRIGHT, READER_LIMIT, SHORT_TABLE, above, refuse_when, spacing_check,
+)
 from tables import LENGTHS
 
 NOT_A_BOOK, NO_SUCH_SHADE, TOO_MANY_SHADES, OUT_OF_ORDER, SHORT_BUFFER = 11, 12, 13, 14, 15
@@ -58,7 +60,7 @@ def write(spacing, numbers, spectra, buffer):
         (SHORT_TABLE, lambda: len(spectra) != LENGTHS[spacing] * count),
         (TOO_MANY_SHADES, lambda: count > SHADE_LIMIT),
         (OUT_OF_ORDER, lambda: not rising_from_one(numbers)),
-        (OVER_BRIGHT, lambda: any(reading > READING_LIMIT for reading in spectra)),
+        (OVER_BRIGHT, lambda: above(FRAME_LIMIT, spectra)),
         (SHORT_BUFFER, lambda: len(buffer) < total(spacing, count)),
     )
     rows = LENGTHS[spacing]
@@ -83,7 +85,7 @@ def shades(data, spacing):
         found.append((take(data, at, 2), readings(data[offset:offset + body])))
     if not rising_from_one([number for number, _ in found]):
         return None
-    if any(max(spectrum) > READING_LIMIT for _, spectrum in found):
+    if any(above(READER_LIMIT, spectrum) for _, spectrum in found):
         return None
     return found
 

@@ -9,8 +9,10 @@ from books import (
     LAST_SHADE, MIXTURES, books_of_note, damaged_book, made, mixed_books, overwrite,
     rising_numbers, whole_book,
 )
-from ledger import READING_LIMIT, Refused
-from lines import OTHER, UNKNOWN_SPACINGS, any_spectrum, changed, flat
+from ledger import FRAME_LIMIT, Refused
+from lines import (
+    AROUND_LIMITS, OTHER, TOO_BRIGHT, UNKNOWN_SPACINGS, any_spectrum, changed, flat,
+)
 from tables import LENGTHS
 
 REFUSAL = 2**32  # above every count; the cause's number is added
@@ -70,8 +72,8 @@ def faulty_write(chance, faults):
     room = size + chance.pick((0, 1, 90, 170))
     if faults & 32:
         room = chance.pick((0, 5, size - 2 * rows, size - 1, min(size - 1, total(10, count))))
-    if faults & 16:
-        spectra[chance.pick((0, -1, chance.below(rows)))] = chance.pick((20_001, 32_768, 65_535))
+    readings = (*AROUND_LIMITS[2:], 65_535) if faults & 16 else AROUND_LIMITS[:2]
+    spectra[chance.pick((0, -1, chance.below(rows)))] = chance.pick(readings)
     if faults & 8:
         place = chance.below(count)
         numbers[place] = chance.pick((0, numbers[place - 1])) if place else 0
@@ -111,8 +113,8 @@ def edge_writes(chance, spacing):
             yield Write(spacing, upwards[:count], [9] * length, chance.bytes(size(count)))
     for count in (1, 3, SHADE_LIMIT):
         for place in (0, 1, rows - 1, rows * count - 1):
-            for reading in (READING_LIMIT, READING_LIMIT + 1, 65_535):
-                spectra = changed(flat(READING_LIMIT, spacing) * count, place, reading)
+            for reading in (*AROUND_LIMITS, 65_535):
+                spectra = changed(flat(FRAME_LIMIT, spacing) * count, place, reading)
                 yield Write(spacing, upwards[:count], spectra, chance.bytes(size(count) + 3))
     for count in (1, 41, 81, SHADE_LIMIT):  # as many readings as 41 shades have at 5 nm, 81 at 10
         room = chance.bytes(total(5, count))
@@ -126,7 +128,7 @@ def unknown_writes(chance):
         for rows in LENGTHS.values():
             yield Write(spacing, [1, 2], [9] * (2 * rows), chance.bytes(346))
         yield Write(spacing, [], [], chance.bytes(6))
-        yield Write(spacing, [0] * 201, [20_001], b"")
+        yield Write(spacing, [0] * 201, [TOO_BRIGHT], b"")
 
 
 def writes(chance, count):

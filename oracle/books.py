@@ -6,7 +6,8 @@ import book
 import listing
 from book import ENTRY, HEAD, SHADE_LIMIT
 from chance import Chance
-from lines import OTHER, any_spectrum
+from ledger import READER_LIMIT
+from lines import AROUND_LIMITS, OTHER, any_spectrum, changed, flat
 from near_limit import any_near
 from tables import LENGTHS
 
@@ -31,8 +32,9 @@ def overwrite(data, at, value, size):
 
 def made(chance, numbers, *spacings):
     """A book of these numbers; the spacings go to the shades by turns."""
-    return book.book_bytes([(number, any_spectrum(chance, spacings[place % len(spacings)]))
-                            for place, number in enumerate(numbers)])
+    return book.book_bytes([
+        (number, any_spectrum(chance, spacings[place % len(spacings)], READER_LIMIT))
+        for place, number in enumerate(numbers)])
 
 
 def whole_book(chance, spacing):
@@ -40,14 +42,26 @@ def whole_book(chance, spacing):
     numbers = rising_numbers(chance, chance.pick((0, 1, 2, 5, 20, 200)))
     return book.book_bytes([
         (number, any_near(chance, listing.LIGHT, spacing) if chance.one_in(20)
-         else any_spectrum(chance, spacing)) for number in numbers])
+         else any_spectrum(chance, spacing, READER_LIMIT)) for number in numbers])
+
+
+def bright_books():
+    """By name: two shades, with a reading around the limits in the first row of the first or in the
+    last row of the last."""
+    found = {}
+    for spacing, reading in product(LENGTHS, AROUND_LIMITS):
+        dim, name = flat(1_250, spacing), f"a reading of {reading} at {spacing} nm"
+        first, last = changed(dim, 0, reading), changed(dim, len(dim) - 1, reading)
+        found[f"{name}, the first"] = book.book_bytes([(7, first), (LAST_SHADE, dim)])
+        found[f"{name}, the last"] = book.book_bytes([(7, dim), (LAST_SHADE, last)])
+    return found
 
 
 def books_of_note():
-    """By name: books of the most shades and of one more, with a byte too many and one too few and
-    with the other spacing's length; empty books; and 9 shades at 5 nm, which are as long as 17 at
-    10 nm, with the count of the others."""
-    chance, found = Chance(0), {}
+    """By name: those with bright readings; books of the most shades and of one more, with a byte
+    too many and one too few and with the other spacing's length; empty books; and 9 shades at 5 nm,
+    which are as long as 17 at 10 nm, with the count of the others."""
+    chance, found = Chance(0), bright_books()
     for spacing in LENGTHS:
         name = f"a book of {SHADE_LIMIT} shades at {spacing} nm"
         full = made(chance, range(LAST_SHADE - SHADE_LIMIT + 1, LAST_SHADE + 1), spacing)
@@ -110,7 +124,7 @@ def damaged_book(chance, spacing):
         lambda: ("gap", data[:bodies] + b"\0\0" + data[bodies:]),
         lambda: ("trailing", data + chance.bytes(chance.pick((1, 2, length, other, length + 8)))),
         lambda: ("truncated", data[:chance.below(len(data))]),
-        lambda: ("reading", overwrite(data, any_row, chance.pick((20_001, 65_535)), 2)),
+        lambda: ("reading", overwrite(data, any_row, chance.pick((*AROUND_LIMITS, 65_535)), 2)),
         lambda: ("too many", made(chance, range(1, 202), spacing)),
         lambda: ("mixed", made(chance, numbers, *mixture)),
         lambda: ("mixture", chance.pick(list(

@@ -6,23 +6,31 @@ import book
 import host
 import listing
 import replay
+from bright import around
 from chance import Chance
-from lines import any_spectrum, changed, flat
+from ledger import READER_LIMIT
+from lines import AROUND_LIMITS, any_spectrum, changed, flat
 from near_limit import any_near, each_near
 from script import script
 from tables import LENGTHS, LIGHTS
 
 SEED = 1931
 HOST_CASES = "oracle/host_cases.txt"
+IN_A_BOOK = [reading for reading in AROUND_LIMITS if reading <= READER_LIMIT]
 
 
-def stored_book(chance):
-    """Some thirty shades: extremes of number and reading, lots of every kind, and sums near the
+def shades(chance):
+    """Some fifty: extremes of reading, the frame's limit, lots of every kind, and sums near the
     limit of f."""
-    spectra = [flat(0), flat(20_000), flat(1), flat(1_250), flat(88), flat(89), flat(10_000)]
-    spectra += [changed(flat(0), 0, 20_000), changed(flat(20_000), 80, 0)]
-    spectra += [any_spectrum(chance) for _ in range(11)]
-    spectra += each_near(Chance(0), listing.LIGHT, 5)
+    spectra = [flat(0), flat(READER_LIMIT), flat(1), flat(1_250), flat(88), flat(89), flat(10_000)]
+    spectra += [changed(flat(0), 0, READER_LIMIT), changed(flat(READER_LIMIT), 80, 0)]
+    spectra += [spectrum for reading in IN_A_BOOK for spectrum in around(reading, 5)]
+    spectra += [any_spectrum(chance, 5, READER_LIMIT) for _ in range(11)]
+    return spectra + list(each_near(Chance(0), listing.LIGHT, 5))
+
+
+def stored_book(spectra):
+    """With extremes of number."""
     numbers = [1, 2, 7, 255, 256, *(300 + 17 * place for place in range(len(spectra) - 7)),
                65_534, 65_535]
     return book.book_bytes(list(zip(numbers, spectra)))
@@ -34,10 +42,10 @@ def spectrum_bytes(spectrum):
 
 def host_case(chance):
     """A light, the spectrum's bytes and the lent buffer, mostly good."""
-    spectrum = any_spectrum(chance, chance.pick((5, 10)))
+    spectrum = any_spectrum(chance, chance.pick((5, 10)), READER_LIMIT)
     if chance.one_in(6):
         row = chance.below(len(spectrum))
-        spectrum = changed(spectrum, row, chance.pick((20_001, 65_535)))
+        spectrum = changed(spectrum, row, chance.pick((*AROUND_LIMITS, 65_535)))
     data = spectrum_bytes(spectrum)
     if chance.one_in(6):
         data = (data * 4)[:chance.pick((0, 1, 41, 80, 81, 83, 84, 160, 161, 163, 164, 324))]
@@ -55,7 +63,7 @@ def host_case_near(chance):
 def host_faults(chance, data):
     """A spectrum's bytes with the light, the last reading and the buffer right and wrong in all
     eight ways."""
-    bright = (data[:-2] + book.put(20_001, 2))[:len(data)]
+    bright = (data[:-2] + book.put(READER_LIMIT + 1, 2))[:len(data)]
     for faults in range(8):
         given = bright if faults & 2 else data
         yield 3 if faults & 1 else 2, given, chance.bytes(19 if faults & 4 else 23)
@@ -64,19 +72,21 @@ def host_faults(chance, data):
 def host_lengths(chance):
     """Spectra of 0 to 164 bytes, each in all eight ways."""
     for length in range(165):
-        yield from host_faults(chance, spectrum_bytes(flat(20_000) * 2)[:length])
+        yield from host_faults(chance, spectrum_bytes(flat(READER_LIMIT) * 2)[:length])
 
 
 def host_cases(chance):
     """At each spacing the light, the length, the reading and the buffer wrong in all sixteen ways,
     then others, then sums near the limit of f."""
     for spacing in LENGTHS:
-        data = spectrum_bytes(flat(20_000, spacing))
+        data = spectrum_bytes(flat(READER_LIMIT, spacing))
         yield from host_faults(chance, data)
         yield from host_faults(chance, data[:-1])
         for light in (1, 2):
-            for entry in (0, 1, 10_000, 20_000):
+            for entry in (0, 1, 10_000):
                 yield light, spectrum_bytes(flat(entry, spacing)), chance.bytes(20)
+            for spectrum in (one for entry in AROUND_LIMITS for one in around(entry, spacing)):
+                yield light, spectrum_bytes(spectrum), chance.bytes(20)
     for _ in range(80):
         yield host_case(chance)
     for light, spacing in product(LIGHTS, LENGTHS):
@@ -97,11 +107,12 @@ def host_text(cases):
 
 def stored():
     chance = Chance(SEED)
-    calls, shades = script(chance), stored_book(chance)
+    spectra = shades(chance)
+    calls, whole = script(chance, spectra), stored_book(spectra)
     return {
         "crates/replay/stdin": calls,
         "crates/replay/stdout": replay.output(calls),
-        "crates/shadelist/stdin": shades,
-        "crates/shadelist/stdout": listing.output(shades),
+        "crates/shadelist/stdin": whole,
+        "crates/shadelist/stdout": listing.output(whole),
         HOST_CASES: host_text(host_cases(chance)),
     }

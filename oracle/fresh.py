@@ -8,8 +8,8 @@ from colour import Colour, colour, difference
 from inspection import old_trials
 from ledger import GUARD, INSPECTION_TABLES, Ledger, Preview, Trial
 from lines import (
-    NO_SUCH_TABLES, OTHER, REPORT, TOO_LARGE, UNKNOWN_SPACINGS, any_spectrum, changed,
-    few_rows_tables, full_tables, largest_tables, light, near_spectrum, opening, preview,
+    AROUND_LIMITS, NO_SUCH_TABLES, OTHER, REPORT, TOO_LARGE, UNKNOWN_SPACINGS, any_spectrum,
+    changed, few_rows_tables, full_tables, largest_tables, light, near_spectrum, opening, preview,
     smooth_spectrum, standard, tolerance, trial,
 )
 from near_limit import near_the_limit
@@ -21,7 +21,7 @@ from unreadable import unreadable
 
 LIGHT_WORDS = (1, 2, 1, 2, 1, 2, 0, 3, "02", 2**32 - 1, 2**32 + 1, TOO_LARGE)
 SPACING_WORDS = {5: (5, 5, 5, "05"), 10: (10, 10, 10, "00010")}
-BAD_READINGS = (20_001, 40_000, 65_535, 65_536, TOO_LARGE)
+BRIGHT_READINGS = (*AROUND_LIMITS, 40_000, 65_535, 65_536, TOO_LARGE)
 BAD_ENTRIES = (2_000_001, 3_000_001, 2**32, TOO_LARGE)
 
 Measured = namedtuple("Measured", "conditions spectrum colour")
@@ -94,10 +94,10 @@ class CallList:
         return any_spectrum(self.chance, OTHER[spacing] if self.chance.one_in(12) else spacing)
 
     def maybe_bad(self, spectrum):
-        """Now and then a wrong length, an over-bright reading, or both."""
+        """Now and then a reading around a limit or far above it, a wrong length, or both."""
         if self.chance.one_in(12):
             row = self.chance.below(len(spectrum))
-            spectrum = changed(spectrum, row, self.chance.pick(BAD_READINGS))
+            spectrum = changed(spectrum, row, self.chance.pick(BRIGHT_READINGS))
         if self.chance.one_in(12):
             lengths = (0, 1, 40, 41, 42, 80, 81, 82, 123, 162, 243)
             spectrum = (spectrum * 6)[:self.chance.pick(lengths)]

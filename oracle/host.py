@@ -3,7 +3,7 @@
 from book import SHORT_BUFFER, body_length, readings
 from colour import colour
 from ledger import (
-    NO_SUCH_LIGHT, OVER_BRIGHT, READING_LIMIT, SHORT_TABLE, Refused, built_in, refuse_when,
+    NO_SUCH_LIGHT, OVER_BRIGHT, READER_LIMIT, SHORT_TABLE, Refused, above, built_in, refuse_when,
 )
 from tables import LENGTHS, LIGHTS
 
@@ -17,7 +17,7 @@ def shade_colour(light, spectrum, out):
         refuse_when(
             (NO_SUCH_LIGHT, lambda: light not in LIGHTS),
             (SHORT_TABLE, lambda: len(spectrum) not in SPACINGS),
-            (OVER_BRIGHT, lambda: max(readings(spectrum)) > READING_LIMIT),
+            (OVER_BRIGHT, lambda: above(READER_LIMIT, readings(spectrum))),
             (SHORT_BUFFER, lambda: len(out) < ANSWER),
         )
     except Refused as refusal:

@@ -6,8 +6,8 @@ from itertools import product
 from chance import Chance
 from ledger import INSPECTION_TABLES
 from lines import (
-    NO_SUCH_TABLES, REPORT, TOO_LARGE, by_turns, changed, counted, light, preview, seen_at,
-    seen_nowhere, standard, tolerance, trial,
+    NO_SUCH_TABLES, REPORT, TOO_BRIGHT, TOO_LARGE, by_turns, changed, counted, light, preview,
+    seen_at, seen_nowhere, standard, tolerance, trial,
 )
 from published import flat
 
@@ -27,7 +27,7 @@ def swatches(spacing):
 def wrong_swatches(spacing):
     """Short, over-bright, and both."""
     good = flat(50, spacing)
-    return [good[1:], changed(good, 0, 20_001), changed(good[1:], 0, 20_001)]
+    return [good[1:], changed(good, 0, TOO_BRIGHT), changed(good[1:], 0, TOO_BRIGHT)]
 
 
 def no_such_table(spacing):

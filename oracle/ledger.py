@@ -12,7 +12,8 @@ SHORT_TABLE, OVER_BRIGHT, OFF_SCALE_CONDITION, DARK_WHITE, LOPSIDED_WHITE = 1, 2
 NO_CONDITIONS, NO_STANDARD, NO_TOLERANCE, TOLERANCE_OFF_SCALE, SESSION_FULL = 6, 7, 8, 9, 10
 NO_SUCH_LIGHT, UNKNOWN_SPACING, NO_SUCH_TABLE = 16, 17, 18
 
-READING_LIMIT = 20_000
+FRAME_LIMIT = 12_000  # of readings that are measured in a session or written into a book
+READER_LIMIT = 20_000  # of readings in a book that is read or listed, and in a host call
 ILLUMINANT_LIMIT = 3_000_000
 OBSERVER_LIMIT = 2_000_000
 TOLERANCE_LIMIT = 1_000_000
@@ -45,11 +46,15 @@ def spacing_check(spacing):
     return UNKNOWN_SPACING, lambda: spacing not in LENGTHS
 
 
+def above(limit, readings):
+    return any(reading > limit for reading in readings)
+
+
 def spectrum_checks(spectrum, under):
     """A spectrum's, for a call that names no spacing: it has the rows of the one in force."""
     return (
         (SHORT_TABLE, lambda: len(spectrum) != LENGTHS[under.spacing]),
-        (OVER_BRIGHT, lambda: max(spectrum) > READING_LIMIT),
+        (OVER_BRIGHT, lambda: above(FRAME_LIMIT, spectrum)),
     )
 
 

@@ -1,7 +1,7 @@
 """Lines of a replay script, and spectra and tables to fill them."""
 
 from colour import colour, difference
-from ledger import GUARD, INSPECTION_TABLES
+from ledger import FRAME_LIMIT, GUARD, INSPECTION_TABLES, READER_LIMIT
 from published import filled, flat
 from tables import LENGTHS
 
@@ -37,6 +37,10 @@ def preview(table_number, spectrum):
 REPORT = b"report"
 TOO_LARGE = 10**64 + 1  # for every place; cut to its low bits or low digits it would be 1
 OTHER = {5: 10, 10: 5}  # the other spacing
+
+# The last three are too bright for the frame, the last one for a book and the host call too.
+AROUND_LIMITS = FRAME_LIMIT - 1, FRAME_LIMIT, FRAME_LIMIT + 1, READER_LIMIT, READER_LIMIT + 1
+TOO_BRIGHT = FRAME_LIMIT + 1  # by as little as can be
 
 # Those from 261 on would be 5 or 10 if they were cut to their low bits or low digits.
 UNKNOWN_SPACINGS = (
@@ -104,36 +108,36 @@ def smooth_spectrum(chance, low, high, spacing):
     ]
 
 
-def rough_spectrum(chance, spacing):
-    return [chance.between(0, 20_000) for _ in range(LENGTHS[spacing])]
+def rough_spectrum(chance, spacing, limit):
+    return [chance.between(0, limit) for _ in range(LENGTHS[spacing])]
 
 
-def spiky_spectrum(chance, spacing):
+def spiky_spectrum(chance, spacing, limit):
     """Zero but for a few rows, some of them of the largest reading."""
     spectrum = flat(0, spacing)
     for _ in range(chance.between(1, 4)):
         row = chance.below(LENGTHS[spacing])
-        spectrum[row] = chance.pick((1, chance.between(0, 20_000), 20_000))
+        spectrum[row] = chance.pick((1, chance.between(0, limit), limit))
     return spectrum
 
 
-def any_spectrum(chance, spacing=5):
+def any_spectrum(chance, spacing=5, limit=FRAME_LIMIT):
     return chance.pick((
-        lambda: smooth_spectrum(chance, 0, 20_000, spacing),
+        lambda: smooth_spectrum(chance, 0, limit, spacing),
         lambda: smooth_spectrum(chance, 0, 2_000, spacing),
         lambda: smooth_spectrum(chance, 0, 200, spacing),
-        lambda: rough_spectrum(chance, spacing),
-        lambda: spiky_spectrum(chance, spacing),
-        lambda: flat(chance.pick((0, 1, 88, 89, 10_000, 20_000, chance.below(20_001))), spacing),
+        lambda: rough_spectrum(chance, spacing, limit),
+        lambda: spiky_spectrum(chance, spacing, limit),
+        lambda: flat(chance.pick((0, 1, 88, 89, 10_000, limit, chance.between(0, limit))), spacing),
     ))()
 
 
 def near_spectrum(chance, spectrum):
-    """Some rows moved a little, within the readings' range."""
+    """Some rows moved a little, within the frame's limit."""
     reach = chance.pick((1, 3, 20, 200, 2_000))
     share = chance.pick((1, 4, 40))
     return [
-        min(max(reading + chance.between(-reach, reach), 0), 20_000)
+        min(max(reading + chance.between(-reach, reach), 0), FRAME_LIMIT)
         if chance.one_in(share) else reading
         for reading in spectrum
     ]

@@ -8,7 +8,7 @@ from bisect import bisect_left
 from functools import lru_cache
 
 from colour import conditions, cube_root_down, f_step, lightness, sums
-from ledger import READING_LIMIT
+from ledger import FRAME_LIMIT
 from lines import light, opening, smooth_spectrum
 from published import filled
 from tables import LENGTHS, light_tables
@@ -45,10 +45,11 @@ LIGHTNESS_BELOW, LIGHTNESS_ABOVE = range(79_996, 80_000), range(80_001, 80_004)
 
 # Tables made for it
 
-# Rows: an illuminant and a column's entry. All together have a multiple of 25 x 24,389.
+# Rows: an illuminant and a column's entry. All together have a multiple of 25 x 24,389, and none
+# weighs more than the frame's limit times the next.
 UNITS = (1, 20_000), (1, 4_388), (1, 1)
 FINE = (24, 24_389), *UNITS
-FULL = (123 * 24_389, 2_000_000), (16_399, 24_389), *UNITS
+FULL = (123 * 24_389, 2_000_000), (24_000, 24_389), (999, 24_389), *UNITS
 
 
 class AnySums:
@@ -79,7 +80,7 @@ class AnySums:
             left -= level * shared
             assert left >= 0
             for weight in self.weights:
-                readings.append(min(left // weight, READING_LIMIT))
+                readings.append(min(left // weight, FRAME_LIMIT))
                 left -= readings[-1] * weight
             assert left == 0
         return readings + [level] * (LENGTHS[self.spacing] - len(readings))
@@ -89,12 +90,12 @@ class AnySums:
         points = [any_point(chance) for _ in range(3)]
         levels = [total // shared
                   for total, shared in zip(self.sums(points), self.shared) if shared]
-        most = min([READING_LIMIT, *levels])
+        most = min([FRAME_LIMIT, *levels])
         return self.spectrum(*points, level=chance.pick((0, chance.below(most + 1), most)))
 
 
 def fine_sums(spacing):
-    """The smallest white, so the sums can be anything up to twice that."""
+    """The smallest white, so the sums can be anything up to 1.2 times that."""
     return AnySums(spacing, FINE)
 
 
@@ -123,9 +124,9 @@ def part_near(chance):
 
 
 def any_point(chance):
-    """Mostly near the limit; no brighter than three times the limit."""
+    """Mostly near the limit; no brighter than twice the limit."""
     part = chance.pick((
-        part_near(chance), part_near(chance), part_near(chance), chance.between(1, 3 * LIMIT),
+        part_near(chance), part_near(chance), part_near(chance), chance.between(1, 2 * LIMIT),
         at_step(chance.between(137_932, 206_896)), at_lightness(chance.between(1, 79_999)),
     ))
     return (0, 0) if chance.one_in(12) else (part, chance.between(-1, 1))

@@ -11,7 +11,7 @@ from chance import Chance
 from colour import above_limit, cube_root_down, sums
 from expect import Difference
 from fresh import CallList
-from ledger import READING_LIMIT, Ledger
+from ledger import FRAME_LIMIT, Ledger
 from lines import (
     any_spectrum, by_turns, changed, full_tables, light, opening, preview, standard, tolerance,
     trial,
@@ -51,7 +51,7 @@ def raised(chance, spectrum):
     reach, share = chance.pick((1, 1, 1, 3, 200)), chance.pick((1, 8, len(spectrum)))
     sure = chance.below(len(spectrum))
     return [
-        min(reading + chance.between(1, reach), READING_LIMIT)
+        min(reading + chance.between(1, reach), FRAME_LIMIT)
         if row == sure or chance.one_in(share) else reading
         for row, reading in enumerate(spectrum)
     ]
@@ -62,7 +62,7 @@ def rising(chance, under, spectrum):
     row, finely, series = finest_row(under), chance.one_in(2), [spectrum]
     for _ in range(6):
         last = series[-1]
-        finer = changed(last, row, min(last[row] + 1, READING_LIMIT))
+        finer = changed(last, row, min(last[row] + 1, FRAME_LIMIT))
         series.append(finer if finely else raised(chance, last))
     return series
 

@@ -2,17 +2,18 @@
 
 from functools import partial
 
+from bright import around_the_limits, shades_as_standards
 from inspection import (
     each_tally, each_verdict, no_such_table, old_trials, previews_not_counted, refused_not_counted,
     reordered,
 )
-from ledger import built_in, from_tables
+from ledger import FRAME_LIMIT, built_in, from_tables
 from limit import around_the_limit
 from lines import (
-    NO_SUCH_TABLES, OTHER, REPORT, TOO_LARGE, any_spectrum, by_turns, changed, few_rows_tables,
-    full_tables, guard_lines, largest_tables, light, millionths_spectrum, millionths_tables,
-    near_spectrum, opening, preview, seen_at, seen_by_turns, seen_nowhere, smooth_spectrum,
-    standard, tolerance, trial,
+    NO_SUCH_TABLES, OTHER, REPORT, TOO_BRIGHT, TOO_LARGE, any_spectrum, by_turns, changed,
+    few_rows_tables, full_tables, guard_lines, largest_tables, light, millionths_spectrum,
+    millionths_tables, near_spectrum, opening, preview, seen_at, seen_by_turns, seen_nowhere,
+    smooth_spectrum, standard, tolerance, trial,
 )
 from published import (
     EQUAL_ENERGY_TABLES, THREE_ROWS, dark_between_tables, filled, flat, ratio_spectrum, three_rows,
@@ -23,7 +24,7 @@ from spacings import (
 from tables import LENGTHS, LIGHTS, light_tables
 from unreadable import unreadable
 
-SHORT_AND_BRIGHT = flat(20_001)[1:]  # at both spacings
+SHORT_AND_BRIGHT = flat(TOO_BRIGHT)[1:]  # at both spacings
 
 
 def nothing_opened():
@@ -89,8 +90,8 @@ def edge_tables(chance, spacing):
         full_tables(chance, spacing),
         [table[::-1] for table in good],
     )):
-        said += [opening(tables, spacing), standard(level(20_000))]
-        said += [trial(by_turns(place), part(20_000, 0, 20_000))]
+        said += [opening(tables, spacing), standard(level(FRAME_LIMIT))]
+        said += [trial(by_turns(place), part(FRAME_LIMIT, 0, FRAME_LIMIT))]
         said += [standard(any_spectrum(chance, spacing)), REPORT]
     return said
 
@@ -98,8 +99,8 @@ def edge_tables(chance, spacing):
 def no_tolerance():
     """At 10 nm, as long as none was ever set."""
     shade = flat(1_250, 10)
-    swatches = shade, flat(1_250), SHORT_AND_BRIGHT, flat(20_001, 10)
-    return [light(2, 10), *seen_at(8, flat(20_001)), *seen_nowhere(shade, flat(20_001)),
+    swatches = shade, flat(1_250), SHORT_AND_BRIGHT, flat(TOO_BRIGHT, 10)
+    return [light(2, 10), *seen_at(8, flat(TOO_BRIGHT)), *seen_nowhere(shade, flat(TOO_BRIGHT)),
             standard(shade), *seen_by_turns(*swatches), *seen_nowhere(*swatches), REPORT]
 
 
@@ -107,22 +108,22 @@ def order_of_checks(spacing, table_number):
     """Each cause of the trial and of its preview in their order, the later ones failing too."""
     level, other = partial(flat, spacing=spacing), OTHER[spacing]
     last, seen = LENGTHS[spacing] - 1, partial(seen_at, table_number)
-    wrong = SHORT_AND_BRIGHT, flat(20_001, other)
+    wrong, most = (SHORT_AND_BRIGHT, flat(TOO_BRIGHT, other)), level(FRAME_LIMIT)
     return [
         *seen(*wrong), light(1, spacing), *seen(*wrong), *seen_nowhere(*wrong, level(0)),
-        *map(standard, wrong), standard(level(20_001)), *seen(*wrong),
-        standard(changed(level(20_000), last, 20_001)),
+        *map(standard, wrong), standard(level(TOO_BRIGHT)), *seen(*wrong),
+        standard(changed(most, last, TOO_BRIGHT)),
         standard(changed(level(0), 0, 65_535)), standard(changed(level(0), 0, 65_536)),
         standard(changed(level(0), last // 2, TOO_LARGE)), standard([]), standard(level(0) * 3),
         standard(flat(0, other)), *seen(level(0)),
-        standard(level(20_000)), *seen(*wrong, level(20_000)), REPORT,
-        tolerance("luv", 1_000_001), *seen(level(20_000)), tolerance("luv", 1_000_000),
-        *seen(*wrong, level(20_001), [], level(1)[1:], level(1) + [1], flat(1, other)),
-        *seen(changed(level(1), last, 20_001), level(20_000)), *seen_nowhere(*wrong),
-        tolerance("lab", 1_000_001), tolerance("lab", TOO_LARGE), *seen(level(20_000)),
-        light(3, other), *seen(level(20_000)),
+        standard(most), *seen(*wrong, most), REPORT,
+        tolerance("luv", 1_000_001), *seen(most), tolerance("luv", 1_000_000),
+        *seen(*wrong, level(TOO_BRIGHT), [], level(1)[1:], level(1) + [1], flat(1, other)),
+        *seen(changed(level(1), last, TOO_BRIGHT), most), *seen_nowhere(*wrong),
+        tolerance("lab", 1_000_001), tolerance("lab", TOO_LARGE), *seen(most),
+        light(3, other), *seen(most),
         opening(changed(three_rows(other), 2, flat(0, other)), other),
-        *seen(level(20_000)), light(2, spacing), *seen(level(20_000), *wrong), REPORT,
+        *seen(most), light(2, spacing), *seen(most, *wrong), REPORT,
     ]
 
 
@@ -139,7 +140,7 @@ def previews_between_trials():
 
 
 def marked_examples(spacing):
-    """Document 01's groups 3 and 4, and 1 and 2 by their ratios."""
+    """Document 01's groups 3 and 4, and 1 and 2 by their ratios; a ratio of 2 is over-bright."""
     part, level = partial(filled, spacing=spacing), partial(flat, spacing=spacing)
     said = [opening(three_rows(spacing), spacing), standard(part(10_000, 1_250, 270)),
             standard(level(1_250))]
@@ -147,7 +148,8 @@ def marked_examples(spacing):
         said += [tolerance("lab", amount), trial(by_turns(place + spacing), level(270))]
     tables, at_ratios = millionths_tables(spacing), partial(millionths_spectrum, spacing=spacing)
     said.append(opening(tables, spacing))
-    for ratio in (0, 1, 1_000, 8_855, 8_856, 8_857, 125_000, 999_999, 1_000_000, 2_000_000):
+    for ratio in (0, 1, 1_000, 8_855, 8_856, 8_857, 125_000, 999_999, 1_000_000, 1_200_000,
+                  2_000_000):
         said.append(standard(at_ratios(ratio, ratio, 1_000_000)))
         said.append(standard(at_ratios(1_000_000, ratio, ratio)))
     above, below = at_ratios(8_857, 8_857, 8_857), at_ratios(8_856, 8_856, 8_856)
@@ -173,7 +175,7 @@ def whites():
             opened += [opening(dark_between_tables(number)) for number in LIGHTS]
             opened.append(opening(EQUAL_ENERGY_TABLES))
         for line in opened:
-            said += [line, *(standard(flat(entry, spacing)) for entry in (10_000, 20_000, 0))]
+            said += [line, *(standard(flat(entry, spacing)) for entry in (10_000, FRAME_LIMIT, 0))]
     return said
 
 
@@ -198,7 +200,7 @@ def lots(chance):
 
 def black_and_bright(spacing):
     """Trials far from the standard and equal to it, at tolerances of note."""
-    said, black, bright, dim = [], *(flat(entry, spacing) for entry in (0, 20_000, 1))
+    said, black, bright, dim = [], *(flat(entry, spacing) for entry in (0, FRAME_LIMIT, 1))
     for one, other in ((black, black), (black, bright), (bright, black), (black, dim)):
         said += [light(2, spacing), standard(one)]
         for place, (space, amount) in enumerate((
@@ -210,8 +212,8 @@ def black_and_bright(spacing):
     return said
 
 
-def script(chance):
-    """The whole script; its last line has no line feed."""
+def script(chance, shades):
+    """The whole script, with the shades of a book as standards; its last line has no line feed."""
     said = [
         *nothing_opened(), *wrong_tables(5), *wrong_tables(10), *unknown_spacings(),
         standard(flat(1)), *no_tolerance(), *order_of_checks(5, 3), *order_of_checks(10, 6),
@@ -220,6 +222,7 @@ def script(chance):
         light(1), standard(flat(1_250)), *wrong_tables(5), trial(4, flat(1_250)),
         *left_in_force(5), *left_in_force(10), *every_length(5), *every_length(10),
         *changes(chance), *previews_between_trials(),
+        *around_the_limits(5), *around_the_limits(10), *shades_as_standards(shades),
         *edge_tables(chance, 5), *edge_tables(chance, 10), *marked_examples(5),
         *marked_examples(10), *around_the_limit(5), *around_the_limit(10), *whites(),
         *printed_tables(), *lots(chance),

@@ -1,9 +1,9 @@
 """The stored script's sections on the spacing: named, unknown, in force, left and changed."""
 
 from lines import (
-    OTHER, REPORT, TOO_LARGE, UNKNOWN_SPACINGS, any_spectrum, by_turns, changed, counted,
-    full_tables, largest_tables, light, near_spectrum, opening, preview, seen_at, seen_by_turns,
-    standard, tolerance, trial,
+    OTHER, REPORT, TOO_BRIGHT, TOO_LARGE, UNKNOWN_SPACINGS, any_spectrum, by_turns, changed,
+    counted, full_tables, largest_tables, light, near_spectrum, opening, preview, seen_at,
+    seen_by_turns, standard, tolerance, trial,
 )
 from published import THREE_ROWS, filled, flat, three_rows
 from tables import LENGTHS, light_tables
@@ -63,7 +63,7 @@ def every_length(spacing):
     said = [tolerance("lab", 5_000), light(2, spacing)]
     said += [standard([7] * length) for length in range(84)]
     for place, length in enumerate((1, 2, 40, 41, 42, 80, 81, 82, 83, 122, 123, 162, 163)):
-        wrong = changed([7] * length, length - 1, 20_001)
+        wrong = changed([7] * length, length - 1, TOO_BRIGHT)
         said += seen_at(by_turns(place), [7] * length, wrong)
     return said + [*seen_at(4, []), REPORT]
 

@@ -7,7 +7,7 @@ use mathlib.Core.List.{List}
 use lib.ListN.{length, getD}
 use lib.Dec.{leb, ltb, eqb}
 use borrow.Author.Tests.{leb-true, eqb-true, le-leb, lt-leb, eq-eqb, ne-eqb, not-true}
-use Rattle.cie.specs.Scales.{anyAbove, readingLimit}
+use Rattle.cie.specs.Scales.{anyAbove, readerLimit}
 use Rattle.endian.specs.Bytes.{at16, at32, words}
 use Rattle.endian.proofs.Words.{length-words, words-within, getD-words}
 use Rattle.book.specs.Book.{magic, headLength, entryLength, bodyLength, mostShades, bodiesAt, total, startsWith, entryOk, entriesOk, isBook}
@@ -53,7 +53,7 @@ module _ (rows : ℕ) (s : List ℕ) where
         rw (e, and-false (leb headLength (length s) && startsWith magic s && leb (countOf s) mostShades && eqb (length s) (total rows (countOf s))))
 
     pub last-rule : headLength ≤ length s → startsWith magic s ≡ true → n ≤ mostShades → length s ≡ total rows n
-        → entriesOk rows s headLength 0 (bodiesAt n) n ≡ true → not (anyAbove readingLimit (readingsIn rows s n)) ≡ isBook rows s
+        → entriesOk rows s headLength 0 (bodiesAt n) n ≡ true → not (anyAbove readerLimit (readingsIn rows s n)) ≡ isBook rows s
     unfolding isBook
     last-rule h₁ h₂ h₃ h₄ h₅ =
         rw (← p, le-leb headLength (length s) h₁, h₂, le-leb n mostShades h₃, eq-eqb (length s) (total rows n) h₄, h₅)
@@ -65,7 +65,7 @@ pub record Rules (rows : ℕ) (s : List ℕ) : Type 0 where
   pub few : countOf s ≤ mostShades
   pub whole : length s ≡ total rows (countOf s)
   pub entries : entriesOk rows s headLength 0 (bodiesAt (countOf s)) (countOf s) ≡ true
-  pub fair : anyAbove readingLimit (readingsOf rows s) ≡ false
+  pub fair : anyAbove readerLimit (readingsOf rows s) ≡ false
 
 pub rules : (rows : ℕ) (s : List ℕ) → isBook rows s ≡ true → Rules rows s
 unfolding isBook
@@ -75,7 +75,7 @@ rules rows s e =
     let b₃ : Bool = leb (countOf s) mostShades in
     let b₄ : Bool = eqb (length s) (total rows (countOf s)) in
     let b₅ : Bool = entriesOk rows s headLength 0 (bodiesAt (countOf s)) (countOf s) in
-    let b₆ : Bool = not (anyAbove readingLimit (readingsOf rows s)) in
+    let b₆ : Bool = not (anyAbove readerLimit (readingsOf rows s)) in
     let e₅ = and-left (b₁ && b₂ && b₃ && b₄ && b₅) b₆ e in
     let e₄ = and-left (b₁ && b₂ && b₃ && b₄) b₅ e₅ in
     let e₃ = and-left (b₁ && b₂ && b₃) b₄ e₄ in
@@ -86,7 +86,7 @@ rules rows s e =
       few = leb-true (countOf s) mostShades (and-right (b₁ && b₂) b₃ e₃);
       whole = eqb-true (length s) (total rows (countOf s)) (and-right (b₁ && b₂ && b₃) b₄ e₄);
       entries = and-right (b₁ && b₂ && b₃ && b₄) b₅ e₅;
-      fair = not-true (anyAbove readingLimit (readingsOf rows s)) (and-right (b₁ && b₂ && b₃ && b₄ && b₅) b₆ e);
+      fair = not-true (anyAbove readerLimit (readingsOf rows s)) (and-right (b₁ && b₂ && b₃ && b₄ && b₅) b₆ e);
     }
 
 -- a book has room for its contents

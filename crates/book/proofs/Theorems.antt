@@ -8,7 +8,7 @@ use native.Mathlib.Nat.{mul-zero}
 use mathlib.Core.List.{List, []}
 use lib.ListN.{length}
 use borrow.Author.Tests.{le-leb}
-use Rattle.cie.specs.Scales.{readingLimit}
+use Rattle.cie.specs.Scales.{readerLimit}
 use Rattle.endian.specs.Bytes.{littleEndian, fromLittleEndian, part, numberAt, bytesOf}
 use Rattle.endian.proofs.Words.{words-none}
 use Rattle.book.specs.Book.{headLength, entryLength, bodiesAt, startsWith, contentsOf, bookOf, countOf, numbersOf, firstBodyLength}
@@ -38,7 +38,7 @@ unfolding readingsIn startsWith
 empty-is-book rows =
     let entries = entries-end rows emptyBook headLength 0 (bodiesAt 0) 0 (omega arith) in
     sym (last-rule rows emptyBook (sym none-counted) (omega arith) refl (omega arith) (omega arith) (sym entries))
-    ∙ ap not (sym (bodies-end readingLimit rows emptyBook (bodiesAt 0) 0 (omega arith)))
+    ∙ ap not (sym (bodies-end readerLimit rows emptyBook (bodiesAt 0) 0 (omega arith)))
 
 no-others : (rows : ℕ) (s : List ℕ) → countOf s ≡ 0 → bookOf rows (numbersOf s) (readingsOf rows s) ≡ emptyBook
 unfolding numbersOf readingsIn

@@ -6,7 +6,7 @@ use mathlib.Core.List.{List, [], _∷_, _++_}
 use lib.ListN.{length, take, drop}
 use lib.Dec.{leb, ltb, eqb}
 use Rattle.cie.specs.Spacing.{spectrumBytes}
-use Rattle.cie.specs.Scales.{anyAbove, readingLimit}
+use Rattle.cie.specs.Scales.{anyAbove, readerLimit}
 use Rattle.endian.specs.Bytes.{le16, le32, at16, at32, words, bytesOf}
 
 -- "It begins with the four bytes 53 42 4B 31 (hexadecimal)"
@@ -104,7 +104,7 @@ isBook rows s =
     && leb (countOf s) mostShades
     && eqb (length s) (total rows (countOf s))
     && entriesOk rows s headLength 0 (bodiesAt (countOf s)) (countOf s)
-    && not (anyAbove readingLimit (readingsOf rows s))
+    && not (anyAbove readerLimit (readingsOf rows s))
 
 -- bytes that have room for the contents, whatever the rows: every book's have
 pub record Contents (s : List ℕ) : Type 0 where

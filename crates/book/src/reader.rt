@@ -6,12 +6,12 @@ use super::layout::HEAD;
 use super::layout::MAGIC;
 use super::layout::MOST_SHADES;
 use cie::spacing::MOST_ROWS;
-use cie::spectrum::READING_LIMIT;
+use cie::spectrum::READER_LIMIT;
 ghost use mathlib.Core.Path.{_≡_};
 ghost use mathlib.Core.Bool.{true};
 ghost use Prim.Native.Nat.{_+_, _≤_, _<_};
 ghost use lib.ListN.{length, getD};
-ghost use Rattle.cie.specs.Scales.{anyAbove, readingLimit};
+ghost use Rattle.cie.specs.Scales.{anyAbove, readerLimit};
 ghost use Rattle.cie.specs.Spacing.{mostRows};
 ghost use Rattle.endian.specs.Bytes.{words};
 ghost use Rattle.book.specs.Book.{entryLength, headLength, mostShades, bodiesAt, bodyLength, total, startsWith, entryOk, entriesOk, countOf, numbersOf, readingsOf, readingsIn, isBook, Contents, firstBodyLength, indexOf, spectrumOf};
@@ -70,17 +70,17 @@ fn entries_right(s: &[u8], rows: usize, n: usize) -> bool
 // Whether a reading of the body at a place is over-bright.
 fn body_over_bright(s: &[u8], rows: usize, at: usize) -> bool
     requires { ⌜ (rows ≤ mostRows) × (at + bodyLength rows ≤ length (now s)) ⌝ }
-    ensures { λ r. ⌜ r ≡ anyAbove readingLimit (words (now (s .entry)) at 2 rows) ⌝ }
+    ensures { λ r. ⌜ r ≡ anyAbove readerLimit (words (now (s .entry)) at 2 rows) ⌝ }
 {
     let mut spectrum = [0u16; MOST_ROWS];
     endian::read_words(s, at, &mut spectrum[..rows]);
-    cie::spectrum::over_bright(&spectrum[..rows], READING_LIMIT)
+    cie::spectrum::over_bright(&spectrum[..rows], READER_LIMIT)
 }
 
 // Whether a reading of the n bodies is over-bright.
 fn any_over_bright(s: &[u8], rows: usize, n: usize) -> bool
     requires { ⌜ (rows ≤ mostRows) × (n ≤ mostShades) × (length (now s) ≡ total rows n) ⌝ }
-    ensures { λ r. ⌜ r ≡ anyAbove readingLimit (readingsIn rows (now (s .entry)) n) ⌝ }
+    ensures { λ r. ⌜ r ≡ anyAbove readerLimit (readingsIn rows (now (s .entry)) n) ⌝ }
 {
     let body = layout::body_length(rows);
     let mut left = n;

@@ -8,7 +8,7 @@ use mathlib.Core.List.{List, [], _∷_, _++_, append-assoc, append-nil}
 use lib.ListN.{length, getD, length-append}
 use lib.Dec.{ltb}
 use borrow.Author.Tests.{eq-eqb, ne-eqb, ltb-true}
-use Rattle.cie.specs.Scales.{anyAbove, readingLimit}
+use Rattle.cie.specs.Scales.{anyAbove, readerLimit}
 use Rattle.endian.specs.Bytes.{littleEndian, le16, le32, at16, at32, words, bytesOf, AllBelow}
 use Rattle.endian.proofs.Parts.{tail-below, numberAt-behind, numberAt-front}
 use Rattle.endian.proofs.Words.{words-behind, words-bytesOf}
@@ -148,13 +148,13 @@ module _ (rows : ℕ) (ns rs : List ℕ) (few : length ns ≤ mostShades) where
   begins = refl
 
   pub is-book : AllBelow 65536 ns → bodyLength rows < 65536 → AllBelow 65536 rs → length rs ≡ rows * length ns → rising 0 ns ≡ true
-      → anyAbove readingLimit rs ≡ false → isBook rows (bookOf rows ns rs) ≡ true
+      → anyAbove readerLimit rs ≡ false → isBook rows (bookOf rows ns rs) ≡ true
   is-book b fits br long rises fair =
       let whole : length (bookOf rows ns rs) ≡ total rows (length ns) = omega (arith, length-bookOf rows ns rs, ap (λ (x : ℕ). 2 * x) long) in
       let same : readingsIn rows (bookOf rows ns rs) (length ns) ≡ rs =
       ap (readingsIn rows (bookOf rows ns rs)) (sym count-back) ∙ readings-of br long in
       sym (last-rule rows (bookOf rows ns rs) (sym count-back) (omega arith) begins few whole (entries-of b fits ∙ rises))
-      ∙ ap (λ (l : List ℕ). not (anyAbove readingLimit l)) same ∙ ap not fair
+      ∙ ap (λ (l : List ℕ). not (anyAbove readerLimit l)) same ∙ ap not fair
 
 -- numbers that rise are each found at their own place
 rising-above : (before : ℕ) (xs : List ℕ) (i : ℕ) → rising before xs ≡ true → i < length xs → before < getD xs i 0

@@ -1,4 +1,5 @@
--- The claims of specs/Claims.antt: an accepted write has passed the checks, and so its book keeps every rule. Assumes nothing.
+-- The claims of specs/Claims.antt: shades that pass the writer's checks, by a limit that is no wider than the reader's, make a book that keeps every
+-- rule. Assumes nothing.
 use mathlib.Core.Path.{_≡_, refl, sym, ap, _∙_}
 use mathlib.Core.Bool.{true, false, not}
 use Prim.Native.Nat.{ℕ, _*_, _≤_, _<_}
@@ -12,30 +13,30 @@ use Rattle.causes.specs.Causes.{accepted}
 use Rattle.causes.specs.declared.Checked.the-variants.{Clear}
 use Rattle.causes.specs.Checks.{firstOf}
 use Rattle.causes.proofs.Checks.{clear-head, clear-tail, accepts, numbered-accepted}
-use Rattle.cie.specs.Scales.{anyAbove, readingLimit}
+use Rattle.cie.specs.Scales.{anyAbove, readerLimit, frameLimit}
 use Rattle.cie.specs.Spacing.{unknownSpacing, rowsAt}
-use Rattle.cie.proofs.Scales.{below}
+use Rattle.cie.proofs.Scales.{below, above-wider}
 use Rattle.cie.proofs.TableRows.{rows-few}
 use Rattle.endian.specs.Bytes.{AllBelow}
 use Rattle.book.specs.Book.{bodyLength, mostShades, total, rising, bookOf, numbersOf, readingsOf, isBook, indexOf, spectrumOf}
 use Rattle.book.specs.Reading.{found, placesAfterRead}
 use Rattle.book.proofs.Outcomes.{reads, read-accepted}
 use Rattle.book_writer.specs.Writing.{writeChecks, written, bufferAfterWrite}
-use Rattle.book_writer.specs.Claims.{ReadsBack, WrittenReadsBack}
+use Rattle.book_writer.specs.Claims.{ReadsBack, WrittenReadsBack, StillReadsBack}
 use Rattle.book_writer.proofs.Stored.{length-bookOf}
 use Rattle.book_writer.proofs.Back.{count-back, numbers-of, readings-of, is-book, own-place}
 
--- what an accepted write went by
+-- what the checks leave
 record Shades (rows : ℕ) (ns rs : List ℕ) : Type 0 where
   long : length rs ≡ rows * length ns
   few : length ns ≤ mostShades
   rises : rising 0 ns ≡ true
-  fair : anyAbove readingLimit rs ≡ false
+  fair : anyAbove readerLimit rs ≡ false
 
-shades : (spacing : ℕ) (ns rs : List ℕ) (room : ℕ) → firstOf (writeChecks spacing ns rs room) ≡ Clear
+shades : {limit : ℕ} (spacing : ℕ) (ns rs : List ℕ) (room : ℕ) → firstOf (writeChecks limit spacing ns rs room) ≡ Clear → limit ≤ readerLimit
     → (unknownSpacing spacing ≡ false) × Shades (rowsAt spacing) ns rs
 unfolding writeChecks
-shades spacing ns rs room e =
+shades {limit} spacing ns rs room e h =
     let b₁ = eqb (length rs) (rowsAt spacing * length ns) in
     let e₁ = clear-tail (unknownSpacing spacing) _ _ e in
     let e₂ = clear-tail (not b₁) _ _ e₁ in
@@ -46,14 +47,14 @@ shades spacing ns rs room e =
         long = eqb-true (length rs) (rowsAt spacing * length ns) (not-false b₁ (clear-head (not b₁) _ _ e₁));
         few = ltb-false mostShades (length ns) (clear-head (ltb mostShades (length ns)) _ _ e₂);
         rises = not-false (rising 0 ns) (clear-head (not (rising 0 ns)) _ _ e₃);
-        fair = clear-head (anyAbove readingLimit rs) _ _ e₄;
+        fair = above-wider limit readerLimit rs h (clear-head (anyAbove limit rs) _ _ e₄);
       },
     )
 
 -- the book of such shades, at any number of rows
 module _ (rows : ℕ) (fits : bodyLength rows < 65536) (ns rs : List ℕ) (bn : AllBelow 65536 ns) (h : Shades rows ns rs) where
   below-word : AllBelow 65536 rs
-  below-word i = omega (arith, below readingLimit rs i (h .fair))
+  below-word i = omega (arith, below readerLimit rs i (h .fair))
 
   book : isBook rows (bookOf rows ns rs) ≡ true
   book = is-book rows ns rs (h .few) bn fits below-word (h .long) (h .rises) (h .fair)
@@ -93,11 +94,16 @@ module _ (spacing : ℕ) (known : unknownSpacing spacing ≡ false) (ns rs : Lis
 pub written-reads-back : (spacing : ℕ) → WrittenReadsBack spacing
 unfolding written bufferAfterWrite
 written-reads-back spacing ns rs b n bn e =
-    let checks = firstOf (writeChecks spacing ns rs (length b)) in
+    let checks = firstOf (writeChecks frameLimit spacing ns rs (length b)) in
     let rows : ℕ = rowsAt spacing in
     let s : List ℕ = bookOf rows ns rs in
     let past : List ℕ = drop (total rows (length ns)) b in
     let a = numbered-accepted checks (total rows (length ns)) n e in
-    let h = shades spacing ns rs (length b) (a .0) in
+    let h = shades spacing ns rs (length b) (a .0) (omega arith) in
     let long : length s ≡ n = omega (arith, length-bookOf rows ns rs, ap (λ (x : ℕ). 2 * x) (h .1 .long), a .1) in
     rw (accepts checks (λ _. b) (s ++ past) (a .0), take-at s past n long) (reads-back spacing (h .0) ns rs bn (h .1))
+
+pub still-reads-back : (spacing : ℕ) → StillReadsBack spacing
+still-reads-back spacing ns rs room bn e =
+    let h = shades spacing ns rs room e (omega arith) in
+    reads-back spacing (h .0) ns rs bn (h .1)

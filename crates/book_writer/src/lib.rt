@@ -4,7 +4,7 @@ mod parts;
 use book::layout;
 use book::layout::MOST_SHADES;
 use causes::Cause;
-use cie::spectrum::READING_LIMIT;
+use cie::spectrum::FRAME_LIMIT;
 ghost use mathlib.Core.Path.{_≡_};
 ghost use lib.ListN.{length};
 ghost use Rattle.book_writer.specs.Writing.{writeAnswer, written, bufferAfterWrite};
@@ -34,7 +34,7 @@ pub fn write(spacing: u32, numbers: &[u16], spectra: &[u16], buffer: &mut [u8]) 
     if !parts::is_rising(numbers) {
         return Written::Refused(Cause::OutOfOrder);
     }
-    if cie::spectrum::over_bright(spectra, READING_LIMIT) {
+    if cie::spectrum::over_bright(spectra, FRAME_LIMIT) {
         return Written::Refused(Cause::OverBright);
     }
     let total = layout::total(rows, n);

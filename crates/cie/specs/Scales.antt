@@ -5,9 +5,14 @@ use mathlib.Core.List.{List, [], _∷_}
 use Prim.Native.Nat.{ℕ}
 use lib.Dec.{ltb}
 
--- "A reading is a reflectance in 1/10,000, from 0 to 20,000."
-abbrev pub readingLimit : ℕ
-readingLimit = 20000
+-- "A reading is a reflectance in 1/10,000, from 0 to 20,000.": the reader's limit, which is also the listing's and the host call's. Document 02:
+-- "Books already written may hold up to 20,000: they still read and list, and the host call still takes them"
+abbrev pub readerLimit : ℕ
+readerLimit = 20000
+
+-- the frame's limit: "Standards, trials, previews and the book writer now meet 'over-bright' above 12,000."
+abbrev pub frameLimit : ℕ
+frameLimit = 12000
 
 -- "An illuminant is 81 whole numbers in 1/10,000, each 0 to 3,000,000."
 abbrev pub illuminantLimit : ℕ

@@ -2,8 +2,11 @@
 ghost use mathlib.Core.Path.{_≡_};
 ghost use Rattle.cie.specs.Scales.{anyAbove, largerOf, Largest};
 
-// The largest reading that is accepted: a reflectance of 2, in 1/10,000.
-pub const READING_LIMIT: u16 = 20000;
+// The reader's limit, of what a book holds, and so the listing's and the host call's: a reflectance of 2, in 1/10,000.
+pub const READER_LIMIT: u16 = 20000;
+
+// The frame's limit, of standards, trials and previews and of what is written into a book: a reflectance of 1.2.
+pub const FRAME_LIMIT: u16 = 12000;
 
 // The larger of two readings.
 fn larger(a: u16, b: u16) -> u16

@@ -10,7 +10,7 @@ use lib.ListN.{length, getD, drop, replicate, getD-replicate}
 use lib.Seq.{drop-cons, drop-length}
 use Rattle.cie.specs.declared.Sums.{Sums}
 use Rattle.cie.specs.Spacing.{mostRows, filled}
-use Rattle.cie.specs.Scales.{readingLimit, whiteReading, illuminantLimit, columnLimit, anyAbove}
+use Rattle.cie.specs.Scales.{readerLimit, whiteReading, illuminantLimit, columnLimit, anyAbove}
 use Rattle.cie.specs.Sums.{Tables, rowSum, sumsOf, whiteOf, withRow, AtMostTwice}
 use Rattle.cie.proofs.Scales.{below}
 use Rattle.cie.proofs.Ordered.{row-sum-times}
@@ -56,7 +56,7 @@ unfolding dot
 dot-more rs ws i h k = rw (add-one, drop-cons rs i 0, drop-cons ws i 0)
 
 product : {rs ws : List ℕ} → Spectrum rs → Weights ws → (i : ℕ) → getD rs i 0 * getD ws i 0 ≤ rowLimit
-product {rs} {ws} r w i = mul-le-mul (below readingLimit rs i (r .scale)) (below (illuminantLimit * columnLimit) ws i (w .scale))
+product {rs} {ws} r w i = mul-le-mul (below readerLimit rs i (r .scale)) (below (illuminantLimit * columnLimit) ws i (w .scale))
 
 summed-none : (rs ws : List ℕ) → Summed rs ws 0 0
 summed-none rs ws = record { upto = omega arith; left = omega arith }
@@ -133,18 +133,18 @@ dot-sum [] ws = refl
 dot-sum (r ∷ rs) [] = refl
 dot-sum (r ∷ rs) (w ∷ ws) = omega (arith, dot-sum rs ws)
 
--- no reading above 20,000: twice the white's, over any number of rows
-row-sum-twice : (n : ℕ) (rs is cs : List ℕ) → length is ≤ n → anyAbove readingLimit rs ≡ false →
+-- no reading above the reader's limit: twice the white's, over any number of rows
+row-sum-twice : (n : ℕ) (rs is cs : List ℕ) → length is ≤ n → anyAbove readerLimit rs ≡ false →
     rowSum rs is cs ≤ 2 * rowSum (replicate n whiteReading) is cs
 row-sum-twice n rs is cs l h =
     row-sum-times 2 rs (replicate n whiteReading) is cs
-    (λ row j. omega (arith, below readingLimit rs row h, getD-replicate n row whiteReading 0 (omega arith)))
+    (λ row j. omega (arith, below readerLimit rs row h, getD-replicate n row whiteReading 0 (omega arith)))
 
-pub twice : (n : ℕ) (rs ws : List ℕ) → length ws ≤ n → anyAbove readingLimit rs ≡ false → dot rs ws ≤ 2 * dot (replicate n whiteReading) ws
+pub twice : (n : ℕ) (rs ws : List ℕ) → length ws ≤ n → anyAbove readerLimit rs ≡ false → dot rs ws ≤ 2 * dot (replicate n whiteReading) ws
 twice n rs ws l h =
     omega (arith, row-sum-twice n rs ws (replicate (length ws) 1) l h, dot-sum rs ws, dot-sum (replicate n whiteReading) ws)
 
-pub at-most-twice : (t : Tables) (readings : List ℕ) → anyAbove readingLimit readings ≡ false → AtMostTwice (whiteOf t) (sumsOf t readings)
+pub at-most-twice : (t : Tables) (readings : List ℕ) → anyAbove readerLimit readings ≡ false → AtMostTwice (whiteOf t) (sumsOf t readings)
 unfolding sumsOf whiteOf
 at-most-twice t readings h =
     let is = t .illuminant in

@@ -11,7 +11,7 @@ use Rattle.causes.proofs.Checks.{clear-head, clear-tail, numbered-refused, numb
 use Rattle.cie.specs.declared.Sums.{Sums}
 use Rattle.cie.specs.declared.Colour.{Colour}
 use Rattle.cie.specs.Spacing.{mostRows}
-use Rattle.cie.specs.Scales.{readingLimit}
+use Rattle.cie.specs.Scales.{readerLimit}
 use Rattle.cie.specs.Sums.{White, AtMostTwice}
 use Rattle.cie.specs.Sizes.{Sized}
 use Rattle.cie.specs.Colour.{colourOf}
@@ -29,12 +29,12 @@ use Rattle.conditions.proofs.Dots.{twice}
 use Rattle.conditions.proofs.Fits.{long}
 
 -- readings that pass their checks
-pub spectrum-of : (limit rows : ℕ) (readings : List ℕ) → limit ≤ readingLimit → rows ≤ mostRows →
+pub spectrum-of : (limit rows : ℕ) (readings : List ℕ) → limit ≤ readerLimit → rows ≤ mostRows →
     firstOf (spectrumChecks limit rows readings) ≡ Clear → Spectrum readings
 spectrum-of limit rows readings h k e =
     record {
       few = omega (arith, k, long rows readings (clear-head _ _ _ e));
-      scale = above-wider limit readingLimit readings h (clear-head _ _ _ (clear-tail _ _ _ e));
+      scale = above-wider limit readerLimit readings h (clear-head _ _ _ (clear-tail _ _ _ e));
     }
 
 -- what a colour is found of: the white's own point, an accepted white, and sums at most twice its own
@@ -75,7 +75,7 @@ module _ (limit rows : ℕ) (x y z readings : List ℕ) {m : Measured} (e : meas
   measured-whole told = numbered-accepted _ (dots x y z readings) _ (sym e ∙ ap measureAnswer told)
 
 -- measured sums under sound conditions
-module _ (c : Conditions) (s : Sound c) (limit : ℕ) (h : limit ≤ readingLimit) (readings : List ℕ) {m : Measured} {sums : Sums}
+module _ (c : Conditions) (s : Sound c) (limit : ℕ) (h : limit ≤ readerLimit) (readings : List ℕ) {m : Measured} {sums : Sums}
     (e : measureAnswer m ≡ measuredBy limit (c .rows) (c .x) (c .y) (c .z) readings) (told : m ≡ Whole sums) where
   pub measured-ready : Ready c sums
   measured-ready =

@@ -6,7 +6,7 @@ use Prim.Native.Nat.{ℕ, _+_, _*_, _≤_}
 use lib.ListN.{length, drop, replicate}
 use Rattle.cie.specs.declared.Sums.{Sums}
 use Rattle.cie.specs.Spacing.{mostRows, filled}
-use Rattle.cie.specs.Scales.{readingLimit, whiteReading, illuminantLimit, columnLimit, anyAbove}
+use Rattle.cie.specs.Scales.{readerLimit, whiteReading, illuminantLimit, columnLimit, anyAbove}
 
 -- the products, row by row
 unfoldable pub productsOf : List ℕ → List ℕ → List ℕ
@@ -31,10 +31,10 @@ dots x y z readings = record { x = dot readings x; y = dot readings y; z = dot r
 abbrev pub whiteReadings : List ℕ
 whiteReadings = replicate mostRows whiteReading
 
--- readings that can be summed: "any number of rows up to 81", and none above the widest limit
+-- readings that can be summed: "any number of rows up to 81", and none above the reader's limit, which is the wider
 pub record Spectrum (readings : List ℕ) : Type 0 where
   pub few : length readings ≤ mostRows
-  pub scale : anyAbove readingLimit readings ≡ false
+  pub scale : anyAbove readerLimit readings ≡ false
 
 -- a column of weights: as many as there are rows at most, none above the product of the two limits; past the last row of its tables they are zeros
 pub record Weights (ws : List ℕ) : Type 0 where
@@ -43,7 +43,7 @@ pub record Weights (ws : List ℕ) : Type 0 where
 
 -- the most that one row adds to a sum
 abbrev pub rowLimit : ℕ
-rowLimit = readingLimit * (illuminantLimit * columnLimit)
+rowLimit = readerLimit * (illuminantLimit * columnLimit)
 
 -- the sum of the rows before i: the rows that are left make it the whole
 pub record Summed (readings ws : List ℕ) (sum i : ℕ) : Type 0 where

@@ -3,7 +3,7 @@ ghost use mathlib.Core.Path.{_≡_};
 ghost use Prim.Native.Nat.{_≤_};
 ghost use lib.ListN.{length};
 ghost use Rattle.cie.specs.Spacing.{mostRows};
-ghost use Rattle.cie.specs.Scales.{readingLimit};
+ghost use Rattle.cie.specs.Scales.{readerLimit};
 ghost use Rattle.conditions.specs.Weights.{Spectrum, Weights};
 ghost use Rattle.conditions.specs.Conditions.{conditionsBy, Sound};
 ghost use Rattle.conditions.specs.Measure.{measureAnswer, measuredBy, causeIn, colourUnder};
@@ -28,7 +28,7 @@ pub fn measure<'a>(
     y: &'a [u64],
     z: &'a [u64],
 ) -> Measured
-    requires { ⌜ (limit ≤ readingLimit) × (rows ≤ mostRows) × Weights (now x) × Weights (now y) × Weights (now z) ⌝ }
+    requires { ⌜ (limit ≤ readerLimit) × (rows ≤ mostRows) × Weights (now x) × Weights (now y) × Weights (now z) ⌝ }
     ensures { λ r. ⌜ measureAnswer r ≡ measuredBy limit rows (now (x .entry)) (now (y .entry)) (now (z .entry)) (now (readings .entry)) ⌝ }
 {
     if readings.len() != rows {

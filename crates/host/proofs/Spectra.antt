@@ -10,7 +10,7 @@ use Rattle.causes.specs.declared.Cause.the-variants.{ShortTable, OverBright, No
 use Rattle.causes.specs.Causes.{causeNumber, Numbered, accepted, refused}
 use Rattle.causes.proofs.Checks.{fires, passes, ends}
 use Rattle.cie.specs.Spacing.{rowsAt, spectrumBytes}
-use Rattle.cie.specs.Scales.{readingLimit, anyAbove}
+use Rattle.cie.specs.Scales.{readerLimit, anyAbove}
 use Rattle.cie.specs.Lights.{unknownLight, lightTables}
 use Rattle.cie.specs.Colour.{colourAt}
 use Rattle.cie.proofs.TableRows.{rows-few}
@@ -26,11 +26,11 @@ module _ (light spacing : ℕ) (bytes : List ℕ) {places : List ℕ} {n : ℕ} 
   read : places ≡ words bytes 0 2 (rowsAt spacing)
   read = e ∙ ap (words bytes 0 2) r
 
-  pub bright : anyAbove readingLimit places ≡ true → refused (causeNumber OverBright) ≡ colouredBy light spacing (words bytes 0 2 (rowsAt spacing))
+  pub bright : anyAbove readerLimit places ≡ true → refused (causeNumber OverBright) ≡ colouredBy light spacing (words bytes 0 2 (rowsAt spacing))
   unfolding colouredBy
-  bright h = sym (fires _ _ _ _ _ (ap (anyAbove readingLimit) (sym read) ∙ h))
+  bright h = sym (fires _ _ _ _ _ (ap (anyAbove readerLimit) (sym read) ∙ h))
 
-  module _ (h : anyAbove readingLimit places ≡ false) where
+  module _ (h : anyAbove readerLimit places ≡ false) where
     pub summable : Spectrum places × (length places ≤ rowsAt spacing)
     summable =
         let l : length places ≡ n = ap length e ∙ length-words bytes 0 2 n in
@@ -41,7 +41,7 @@ module _ (light spacing : ℕ) (bytes : List ℕ) {places : List ℕ} {n : ℕ} 
     unfolding colouredBy
     fair k =
         let colour = k ∙ ap (λ (q : List ℕ). coordinatesIn (colourAt (lightTables light spacing) q)) read in
-        ap accepted colour ∙ sym (passes _ _ _ _ _ (ap (anyAbove readingLimit) (sym read) ∙ h) ∙ ends _ _)
+        ap accepted colour ∙ sym (passes _ _ _ _ _ (ap (anyAbove readerLimit) (sym read) ∙ h) ∙ ends _ _)
 
 -- the returns, by the tests that led there
 module _ (light : ℕ) (bytes : List ℕ) where

@@ -10,7 +10,7 @@ use Rattle.causes.specs.Causes.{causeNumber, Numbered, accepted, refusal}
 use Rattle.causes.specs.Checks.{Check, check, firstOf, unless, numbered}
 use Rattle.cie.specs.declared.Colour.{Colour}
 use Rattle.cie.specs.Spacing.{rowsAt, spectrumBytes, spacingTold}
-use Rattle.cie.specs.Scales.{readingLimit, anyAbove}
+use Rattle.cie.specs.Scales.{readerLimit, anyAbove}
 use Rattle.cie.specs.Lights.{unknownLight, lightTables}
 use Rattle.cie.specs.Colour.{colourAt}
 use Rattle.colour.specs.declared.Coordinates.{Coordinates}
@@ -45,7 +45,7 @@ abbrev pub colourChecks : ℕ → List ℕ → List Check
 colourChecks light bytes =
     check (unknownLight light) NoSuchLight
     ∷ check (not (eqb (length bytes) (spectrumBytes (hostRows bytes)))) ShortTable
-    ∷ check (anyAbove readingLimit (hostReadings bytes)) OverBright
+    ∷ check (anyAbove readerLimit (hostReadings bytes)) OverBright
     ∷ []
 
 abbrev pub hostChecks : ℕ → List ℕ → ℕ → List Check
@@ -63,7 +63,7 @@ colouredAnswer (Refused cause) = refusal cause
 -- of readings under a light at a spacing
 unfoldable pub colouredBy : ℕ → ℕ → List ℕ → Numbered Coordinates
 colouredBy light spacing readings =
-    numbered (firstOf (check (anyAbove readingLimit readings) OverBright ∷ [])) (coordinatesIn (colourAt (lightTables light spacing) readings))
+    numbered (firstOf (check (anyAbove readerLimit readings) OverBright ∷ [])) (coordinatesIn (colourAt (lightTables light spacing) readings))
 
 unfoldable pub colouredOf : ℕ → List ℕ → Numbered Coordinates
 colouredOf light bytes = numbered (firstOf (colourChecks light bytes)) (coordinatesIn (hostColour light bytes))

@@ -1,7 +1,7 @@
 // The call for a host program in C: the colour of a spectrum under a built-in light.
 use causes::Cause;
 use cie::spacing;
-use cie::spectrum::READING_LIMIT;
+use cie::spectrum::READER_LIMIT;
 use colour::Coordinates;
 ghost use mathlib.Core.Path.{_≡_};
 ghost use mathlib.Core.Bool.{false};
@@ -28,7 +28,7 @@ fn colour_through(light: u32, spacing: u32, spectrum: &[u8], places: &mut [u16])
     ensures { λ r. ⌜ colouredAnswer r ≡ colouredBy light spacing (words (now (spectrum .entry)) 0 2 (rowsAt spacing)) ⌝ }
 {
     endian::read_words(spectrum, 0, places);
-    if cie::spectrum::over_bright(places, READING_LIMIT) {
+    if cie::spectrum::over_bright(places, READER_LIMIT) {
         return Coloured::Refused(Cause::OverBright);
     }
     Coloured::Whole(lights::coordinates_in(light, spacing, places))

@@ -9,7 +9,7 @@ use lib.Dec.{eqb, ltb}
 use lib.ListN.{length, getD, replicate, List·getD-append}
 use Rattle.cie.specs.declared.Sums.{Sums}
 use Rattle.cie.specs.Spacing.{coarseSpacing, coarseRows, mostRows, rowsAt, filled}
-use Rattle.cie.specs.Scales.{readingLimit, illuminantLimit, columnLimit, anyAbove}
+use Rattle.cie.specs.Scales.{readerLimit, illuminantLimit, columnLimit, anyAbove}
 use Rattle.cie.specs.Tables.{observerX, observerY, observerZ, illuminantA, illuminantD65}
 use Rattle.cie.specs.Sums.{sumsOf, withRow}
 use Rattle.cie.specs.Lights.{lightA, everySecond, tableAt}
@@ -98,7 +98,7 @@ module _ (spacing : ℕ) {rs is x y z : List ℕ} (r : Spectrum rs) (few : lengt
       begun-none (r, weights-at spacing f (p .x-fits), weights-at spacing f (p .y-fits), weights-at spacing f (p .z-fits))
 
   pub lit-product : (i row : ℕ) → getD rs i 0 * getD is row 0 < 2 ^ 64
-  lit-product i row = omega (arith, mul-le-mul (below readingLimit rs i (r .scale)) (below illuminantLimit is row (p .illuminant-fits .scale)))
+  lit-product i row = omega (arith, mul-le-mul (below readerLimit rs i (r .scale)) (below illuminantLimit is row (p .illuminant-fits .scale)))
 
   module _ {s : Sums} {i : ℕ} (b : Lit s i) where
     module _ {row : ℕ} (h : i < length rs) (e : row ≡ strideAt spacing * i) where

@@ -13,7 +13,7 @@ use lib.Seq.{drop-cons, drop-drop}
 use Rattle.causes.proofs.Checks.{passes, ends}
 use Rattle.cie.specs.declared.Colour.{Colour}
 use Rattle.cie.specs.Spacing.{unknownSpacing, mostRows, rowsAt}
-use Rattle.cie.specs.Scales.{readingLimit, anyAbove}
+use Rattle.cie.specs.Scales.{readerLimit, anyAbove}
 use Rattle.cie.specs.Sums.{whiteOf}
 use Rattle.cie.specs.Lights.{lightD65, lightTables}
 use Rattle.cie.specs.Colour.{colourOf}
@@ -75,18 +75,18 @@ module _ (spacing : ℕ) where
       ∙ ap (colourOf (whiteOf t)) (sums-same t (spectrumOf (rowsAt spacing) (readingsOf (rowsAt spacing) s) i))
 
 -- a part of fair readings is fair
-fair-drop : (j : ℕ) (xs : List ℕ) → anyAbove readingLimit xs ≡ false → anyAbove readingLimit (drop j xs) ≡ false
+fair-drop : (j : ℕ) (xs : List ℕ) → anyAbove readerLimit xs ≡ false → anyAbove readerLimit (drop j xs) ≡ false
 unfolding anyAbove
 fair-drop zero xs h = h
 fair-drop (suc j) [] h = refl
-fair-drop (suc j) (x ∷ xs) h = fair-drop j xs (or-right (ltb readingLimit x) (anyAbove readingLimit xs) h)
+fair-drop (suc j) (x ∷ xs) h = fair-drop j xs (or-right (ltb readerLimit x) (anyAbove readerLimit xs) h)
 
-fair-take : (k : ℕ) (xs : List ℕ) → anyAbove readingLimit xs ≡ false → anyAbove readingLimit (take k xs) ≡ false
+fair-take : (k : ℕ) (xs : List ℕ) → anyAbove readerLimit xs ≡ false → anyAbove readerLimit (take k xs) ≡ false
 unfolding anyAbove
 fair-take zero xs h = refl
 fair-take (suc k) [] h = refl
 fair-take (suc k) (x ∷ xs) h =
-    rw (or-left (ltb readingLimit x) (anyAbove readingLimit xs) h) (fair-take k xs (or-right (ltb readingLimit x) (anyAbove readingLimit xs) h))
+    rw (or-left (ltb readerLimit x) (anyAbove readerLimit xs) h) (fair-take k xs (or-right (ltb readerLimit x) (anyAbove readerLimit xs) h))
 
 -- the readings of a book's shade are a spectrum
 pub spectrum-fair : (rows : ℕ) (s : List ℕ) (i : ℕ) {r : List ℕ} → rows ≤ mostRows → isBook rows s ≡ true → length r ≡ rows →

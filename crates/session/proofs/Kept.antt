@@ -4,17 +4,18 @@ use mathlib.Core.Path.{_≡_}
 use mathlib.Core.Bool.{false}
 use mathlib.Core.List.{List}
 use Prim.Native.Nat.{ℕ}
+use native.Mathlib.Omega.{arith}
 use Rattle.causes.specs.declared.Checked.the-variants.{Clear}
 use Rattle.causes.specs.Causes.{Numbered, accepted, refused}
 use Rattle.causes.specs.Checks.{firstOf}
 use Rattle.causes.proofs.Checks.{clear-head, clear-tail, either}
-use Rattle.cie.specs.Scales.{anyAbove}
+use Rattle.cie.specs.Scales.{anyAbove, readerLimit, frameLimit}
 use Rattle.cie.specs.Sums.{Tables, sumsOf, whiteOf, White, AtMostTwice}
+use Rattle.cie.proofs.Scales.{above-wider}
 use Rattle.conditions.specs.Checks.{tableChecks}
 use Rattle.conditions.proofs.Dots.{at-most-twice}
 use Rattle.conditions.proofs.Sound.{light-clear}
 use Rattle.trials.specs.Outcome.{TrialOutcome}
-use Rattle.trials.specs.Checks.{frameLimit}
 use Rattle.session.specs.Call.{Call, open-tables, open-light, set-standard, set-tolerance, trial, report, look}
 use Rattle.session.specs.Ledger.{Held, none, held, Ledger, emptyLedger, Entry, standardAt, triedAt, countedAt, entered}
 
@@ -63,4 +64,4 @@ white-kept t e =
     record { lit = clear-head _ _ _ d; even = clear-head _ _ _ (clear-tail _ _ _ d) }
 
 pub twice-kept : (t : Tables) (readings : List ℕ) → Readable (held readings) → AtMostTwice (whiteOf t) (sumsOf t readings)
-twice-kept t readings e = at-most-twice t readings e
+twice-kept t readings e = at-most-twice t readings (above-wider frameLimit readerLimit readings (omega arith) e)

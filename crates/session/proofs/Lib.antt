@@ -11,4 +11,5 @@ pub mod Looks
 pub mod Steps
 pub mod ByTable
 pub mod Brighter
+pub mod Stopped
 pub mod OrderTells

@@ -11,6 +11,7 @@ use Rattle.causes.specs.Checks.{unless, numbered}
 use Rattle.causes.proofs.Checks.{passes, refuses, accepts}
 use Rattle.cie.specs.declared.Colour.{Colour}
 use Rattle.cie.specs.declared.Sums.{Sums}
+use Rattle.cie.specs.Scales.{frameLimit}
 use Rattle.cie.specs.Colour.{colourOf}
 use Rattle.conditions.specs.declared.Conditions.{Conditions}
 use Rattle.conditions.specs.declared.Prepared.{Prepared}
@@ -23,7 +24,6 @@ use Rattle.conditions.proofs.Measuring.{measured-refused, measured-whole}
 use Rattle.tallies.specs.declared.TableTallies.{TableTallies}
 use Rattle.trials.specs.declared.Standing.{Standing}
 use Rattle.trials.specs.Outcome.{TrialOutcome}
-use Rattle.trials.specs.Checks.{frameLimit}
 use Rattle.trials.specs.Tried.{triedBy, talliesAfter, ValidStanding}
 use Rattle.looks.specs.Look.{Look, Sight}
 use Rattle.looks.specs.Looked.{lookedBy}

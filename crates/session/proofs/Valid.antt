@@ -6,6 +6,7 @@ use native.Mathlib.Omega.{arith}
 use borrow.Author.Tests.{eqb-false}
 use Rattle.causes.specs.Causes.{Numbered, accepted, refused}
 use Rattle.causes.proofs.Checks.{clear-head, clear-tail, either}
+use Rattle.cie.specs.Scales.{frameLimit}
 use Rattle.conditions.specs.Measure.{colourUnder}
 use Rattle.conditions.proofs.Sound.{sound-none, sound-tables, sound-light}
 use Rattle.conditions.proofs.Measuring.{spectrum-of, sized-under}
@@ -13,7 +14,6 @@ use Rattle.tallies.specs.ByTable.{tableLimit}
 use Rattle.tallies.proofs.Sets.{countAt, within-none, within-counted}
 use Rattle.rules.specs.Rules.{judgedOf}
 use Rattle.trials.specs.Outcome.{TrialOutcome}
-use Rattle.trials.specs.Checks.{frameLimit}
 use Rattle.trials.specs.Tried.{judgedAs, triedBy}
 use Rattle.session.specs.declared.Session.{Session}
 use Rattle.session.specs.declared.Served.{Served}

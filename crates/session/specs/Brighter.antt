@@ -8,11 +8,11 @@ use Rattle.causes.specs.Causes as causes
 use Rattle.causes.specs.Checks.{firstOf}
 use Rattle.cie.specs.declared.Colour.{Colour}
 use Rattle.cie.specs.Spacing.{rowsAt}
+use Rattle.cie.specs.Scales.{frameLimit}
 use Rattle.cie.specs.Sums.{Tables}
 use Rattle.cie.specs.Colour.{colourAt}
 use Rattle.cie.specs.Brighter.{NoneHigher, NoBrighter}
 use Rattle.conditions.specs.Checks.{tableChecks, spectrumChecks}
-use Rattle.trials.specs.Checks.{frameLimit}
 use Rattle.trials.specs.Outcome.{TrialOutcome}
 use Rattle.looks.specs.Look.{preview, previewed}
 use Rattle.session.specs.Call.{Call, set-standard, trial, look}

@@ -6,9 +6,9 @@ use mathlib.Core.List.{List, _∷_}
 use Prim.Native.Nat.{ℕ}
 use Rattle.causes.specs.declared.Cause.the-variants.{NoConditions}
 use Rattle.causes.specs.Checks.{Check, check}
+use Rattle.cie.specs.Scales.{frameLimit}
 use Rattle.conditions.specs.Checks.{spectrumChecks}
-use Rattle.trials.specs.Checks.{frameLimit}
 
--- "Standard (spectrum): 6, 1, 2.", with the rows of the spacing in force
+-- "Standard (spectrum): 6, 1, 2.", with the rows of the spacing in force and the frame's limit
 abbrev pub standardChecks : Bool → ℕ → List ℕ → List Check
 standardChecks opened rows readings = check (not opened) NoConditions ∷ spectrumChecks frameLimit rows readings

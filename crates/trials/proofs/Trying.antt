@@ -11,6 +11,7 @@ use Rattle.causes.specs.Checks.{Check, firstOf, unless}
 use Rattle.causes.proofs.Checks.{refuses, accepts, first-because, first-clear}
 use Rattle.cie.specs.declared.Colour.{Colour}
 use Rattle.cie.specs.declared.Sums.{Sums}
+use Rattle.cie.specs.Scales.{frameLimit}
 use Rattle.cie.specs.Colour.{colourOf}
 use Rattle.conditions.specs.declared.Conditions.{Conditions}
 use Rattle.conditions.specs.declared.measure.Measured.{Measured}
@@ -25,7 +26,6 @@ use Rattle.rules.specs.Standing.{standingChecks}
 use Rattle.rules.specs.Rules.{hasStandard, hasTolerance, judgedOf}
 use Rattle.trials.specs.declared.Standing.{Standing}
 use Rattle.trials.specs.Outcome.{TrialOutcome}
-use Rattle.trials.specs.Checks.{frameLimit}
 use Rattle.trials.specs.Tried.{judgedAs, triedBy}
 
 -- what must stand before a trial's spectrum is looked at

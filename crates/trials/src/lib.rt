@@ -8,7 +8,7 @@ use causes::Cause;
 use causes::Checked;
 use cie::Colour;
 use cie::Verdict;
-use cie::spectrum::READING_LIMIT;
+use cie::spectrum::FRAME_LIMIT;
 use colour::white::WhitePoint;
 use conditions::Conditions;
 use conditions::measure;
@@ -20,9 +20,6 @@ use rules::Tolerance;
 use rules::judging;
 use rules::standing::stands;
 use tallies::TableTallies;
-
-// The limit of the spectra that a session is given.
-pub const FRAME_LIMIT: u16 = READING_LIMIT;
 
 // What a session holds beside its conditions.
 pub struct Standing {

@@ -9,7 +9,7 @@ use lib.Dec.{eqb}
 use lib.ListN.{length}
 use Rattle.causes.specs.declared.Cause.the-variants.{ShortTable, OverBright, TooManyShades, OutOfOrder, ShortBuffer, UnknownSpacing}
 use Rattle.cie.specs.Spacing.{unknownSpacing}
-use Rattle.cie.specs.Scales.{anyAbove, readingLimit}
+use Rattle.cie.specs.Scales.{anyAbove, frameLimit}
 use Rattle.book.specs.Book.{rising}
 use Rattle.book.proofs.Tests.{fails, holds}
 use Rattle.book_writer.proofs.Outcomes.{unknown-spacing, short-table, too-many, out-of-order, over-bright, short-buffer, writes}
@@ -47,7 +47,7 @@ filled t =
 rises : (t : tie.Else4) → rising 0 (start (rows₄ t) .args .numbers .now) ≡ true
 rises t = holds (t .before .is-rising .ensures) (t .if4 .left)
 
-fair : (t : tie.Else5) → anyAbove readingLimit (start (rows₅ t) .args .spectra .now) ≡ false
+fair : (t : tie.Else5) → anyAbove frameLimit (start (rows₅ t) .args .spectra .now) ≡ false
 fair t = sym (t .before .over-bright .ensures) ∙ t .if5 .left
 
 returns : tie.Need-returns

@@ -5,11 +5,11 @@ use denote.Ref.{now}
 use native.Mathlib.Omega.{arith}
 use borrow.Author.Needs.{needs}
 use Rattle.causes.specs.Causes.{refusal}
+use Rattle.cie.specs.Scales.{frameLimit}
 use Rattle.conditions.specs.declared.Conditions.{Conditions}
 use Rattle.conditions.specs.Conditions.{conditionsBy}
 use Rattle.conditions.specs.Measure.{causeIn}
 use Rattle.conditions.proofs.Measuring.{measured-ready, measured-sized}
-use Rattle.trials.specs.Checks.{frameLimit}
 use Rattle.trials.specs.Tried.{judgedAs, triedBy}
 use Rattle.trials.proofs.Trying.{Stands, tried-fallen, tried-refused, tried-whole}
 use Rattle.trials.proofs.tried_by.Statement.{statement}

@@ -3,7 +3,7 @@ use Prim.Native.Nat.{_≤_, _-_, _+_, _*_}
 use mathlib.Core.Path.{_≡_, refl, sym, _∙_}
 use native.Mathlib.Omega.{arith}
 use borrow.Author.Needs.{needs}
-use Rattle.cie.specs.Scales.{anyAbove, readingLimit}
+use Rattle.cie.specs.Scales.{anyAbove, readerLimit}
 use Rattle.endian.specs.Bytes.{words}
 use Rattle.book.specs.Book.{bodyLength, total, readingsIn}
 use Rattle.book.proofs.Sizes.{total-small, body-less}
@@ -14,7 +14,7 @@ use Rattle.book.proofs.reader.any_over_bright.Tie as tie
 abbrev Inv-loop : tie.InvT-loop
 Inv-loop s rows n body left₀ at₀ left at =
     (left ≤ n) × (at + bodyLength rows * left ≡ total rows n)
-    × (anyAbove readingLimit (words s at 2 (rows * left)) ≡ anyAbove readingLimit (readingsIn rows s n))
+    × (anyAbove readerLimit (words s at 2 (rows * left)) ≡ anyAbove readerLimit (readingsIn rows s n))
 
 abbrev μ-loop : tie.MeasureT-loop
 μ-loop s rows n body left₀ at₀ left at = left
@@ -34,7 +34,7 @@ returns c =
     let turn = c .before .before .before in
     let l = turn .loop in
     let a = turn .before .before .before .args in
-    bodies-off readingLimit (a .rows) (a .s .now) (l .at) (l .left - 1) (omega arith)
+    bodies-off readerLimit (a .rows) (a .s .now) (l .at) (l .left - 1) (omega arith)
     (sym (c .before .body-over-bright .ensures) ∙ c .if1 .taken) ∙ l .inv .2
 
 add-at-2 : tie.Need-add-at-2 Inv-loop μ-loop
@@ -50,7 +50,7 @@ loop-again c =
     let a = turn .before .before .before .args in (
       omega arith,
       body-less (a .rows) (l .at) (l .left - 1) body (omega arith) (l .inv .1),
-      bodies-on readingLimit (a .rows) (a .s .now) (l .at) (l .left - 1) (omega arith)
+      bodies-on readerLimit (a .rows) (a .s .now) (l .at) (l .left - 1) (omega arith)
           (sym (c .before .body-over-bright .ensures) ∙ c .if1 .left) body ∙ l .inv .2,
     )
 
@@ -58,7 +58,7 @@ returns-2 : tie.Need-returns-2 Inv-loop μ-loop
 returns-2 c =
     let l = c .before .loop in
     let a = c .before .before .before .before .args in
-    bodies-end readingLimit (a .rows) (a .s .now) (l .at) (l .left) (c .loop-test .left) ∙ l .inv .2
+    bodies-end readerLimit (a .rows) (a .s .now) (l .at) (l .left) (c .loop-test .left) ∙ l .inv .2
 
 pub any-over-bright-spec : {M : Type 1} → statement M
 any-over-bright-spec =

@@ -1,7 +1,7 @@
 -- `book::reader::body_over_bright` meets its contract: the words that were read are those that are tested. Assumes nothing.
 use mathlib.Core.Path.{sym, ap, _∙_}
 use borrow.Author.Needs.{needs}
-use Rattle.cie.specs.Scales.{anyAbove, readingLimit}
+use Rattle.cie.specs.Scales.{anyAbove, readerLimit}
 use Rattle.cie.proofs.TableRows.{places-length}
 use Rattle.book.proofs.Tests.{front-read, front-kept, front-within}
 use Rattle.book.proofs.reader.body_over_bright.Statement.{statement}
@@ -22,7 +22,7 @@ slice-aggregate-over-bright c = front-kept _ _ _ _ (places-length (c .before .be
 returns : tie.Need-returns
 returns c =
     let read = c .before .before .before in
-    c .over-bright .ensures ∙ ap (anyAbove readingLimit) (front-read _ _ _ _ (places-length (read .before .before .before .pre .0)) (read .read-words .ensures))
+    c .over-bright .ensures ∙ ap (anyAbove readerLimit) (front-read _ _ _ _ (places-length (read .before .before .before .pre .0)) (read .read-words .ensures))
 
 pub body-over-bright-spec : {M : Type 1} → statement M
 body-over-bright-spec =

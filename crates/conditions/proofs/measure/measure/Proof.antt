@@ -6,7 +6,7 @@ use borrow.Author.Needs.{needs}
 use borrow.Author.Tests.{eq-eqb, ne-eqb}
 use Rattle.causes.specs.Causes.{accepted}
 use Rattle.causes.proofs.Checks.{fires, passes, ends}
-use Rattle.cie.specs.Scales.{readingLimit}
+use Rattle.cie.specs.Scales.{readerLimit}
 use Rattle.cie.proofs.Scales.{above-wider}
 use Rattle.conditions.specs.Measure.{measuredBy}
 use Rattle.conditions.proofs.measure.measure.Statement.{statement}
@@ -33,7 +33,7 @@ sums-of-requires c κs =
     let fair = sym (c .before .over-bright .ensures) ∙ c .if2 .left in (
       record {
         few = omega (arith, c .before .before .if1 .left, s .pre .1);
-        scale = above-wider (s .args .limit) readingLimit (s .args .readings .now) (s .pre .0) fair;
+        scale = above-wider (s .args .limit) readerLimit (s .args .readings .now) (s .pre .0) fair;
       },
       s .pre .2,
       s .pre .3,

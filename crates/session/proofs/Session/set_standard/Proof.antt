@@ -4,9 +4,9 @@ use denote.Ref.{now}
 use native.Mathlib.Omega.{arith}
 use borrow.Author.Needs.{needs}
 use Rattle.causes.proofs.Checks.{fires}
+use Rattle.cie.specs.Scales.{frameLimit}
 use Rattle.conditions.specs.Measure.{causeIn}
 use Rattle.conditions.proofs.Measuring.{measured-ready}
-use Rattle.trials.specs.Checks.{frameLimit}
 use Rattle.session.specs.Served.{refusedBy}
 use Rattle.session.proofs.Valid.{meets}
 use Rattle.session.proofs.Replies.{standard-refused, standard-whole}

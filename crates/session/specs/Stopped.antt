@@ -1,0 +1,25 @@
+-- Document 02, "Bright readings stopped at the frame": what is claimed of the spectra that a session is given. Assumes nothing.
+use mathlib.Core.Path.{_≡_}
+use mathlib.Core.Bool.{true, false}
+use mathlib.Core.List.{List}
+use Prim.Native.Nat.{ℕ}
+use Rattle.causes.specs.declared.Cause.{Cause}
+use Rattle.cie.specs.declared.Colour.{Colour}
+use Rattle.cie.specs.Scales.{anyAbove, frameLimit}
+use Rattle.cie.specs.Sums.{Tables}
+use Rattle.session.specs.declared.Session.{Session}
+use Rattle.session.specs.Call.{set-standard}
+use Rattle.session.specs.Served.{Reply, refusedBy, served}
+use Rattle.session.specs.Brighter.{AcceptedSpectrum}
+
+-- a refusal, and the session as it was
+pub record RefusedFrom (s : Session) (r : Reply) : Type 0 where
+  pub cause : Cause
+  pub told : r ≡ refusedBy s cause
+
+pub record BrightStopped : Type 0 where
+  -- "Standards, trials, previews .. now meet 'over-bright' above 12,000.": what one of them answers with a colour has no reading above the frame's
+  -- limit, after any calls and under any conditions
+  pub accepted : {t : Tables} {readings : List ℕ} {colour : Colour} → AcceptedSpectrum t readings colour → anyAbove frameLimit readings ≡ false
+  -- "such a shade can't be set as a standard": in every session, from whatever book it was read
+  pub no-standard : (s : Session) (readings : List ℕ) → anyAbove frameLimit readings ≡ true → RefusedFrom s (served s (set-standard readings))
