@@ -1,7 +1,7 @@
 -- The claims of specs/Claims.antt: shades that pass the writer's checks, by a limit that is no wider than the reader's, make a book that keeps every
 -- rule. Assumes nothing.
 use mathlib.Core.Path.{_≡_, refl, sym, ap, _∙_}
-use mathlib.Core.Bool.{true, false, not}
+use mathlib.Core.Bool.{true, false}
 use Prim.Native.Nat.{ℕ, _*_, _≤_, _<_}
 use native.Mathlib.Omega.{arith}
 use mathlib.Core.List.{List, _++_}
@@ -12,7 +12,7 @@ use borrow.Author.Tests.{eqb-true, ltb-false, not-false}
 use Rattle.causes.specs.Causes.{accepted}
 use Rattle.causes.specs.declared.Checked.the-variants.{Clear}
 use Rattle.causes.specs.Checks.{firstOf}
-use Rattle.causes.proofs.Checks.{clear-head, clear-tail, accepts, numbered-accepted}
+use Rattle.causes.proofs.Checks.{clear-at, accepts, numbered-accepted}
 use Rattle.cie.specs.Scales.{anyAbove, readerLimit, frameLimit}
 use Rattle.cie.specs.Spacing.{unknownSpacing, rowsAt}
 use Rattle.cie.proofs.Scales.{below, above-wider}
@@ -36,20 +36,15 @@ record Shades (rows : ℕ) (ns rs : List ℕ) : Type 0 where
 shades : {limit : ℕ} (spacing : ℕ) (ns rs : List ℕ) (room : ℕ) → firstOf (writeChecks limit spacing ns rs room) ≡ Clear → limit ≤ readerLimit
     → (unknownSpacing spacing ≡ false) × Shades (rowsAt spacing) ns rs
 unfolding writeChecks
-shades {limit} spacing ns rs room e h =
-    let b₁ = eqb (length rs) (rowsAt spacing * length ns) in
-    let e₁ = clear-tail (unknownSpacing spacing) _ _ e in
-    let e₂ = clear-tail (not b₁) _ _ e₁ in
-    let e₃ = clear-tail (ltb mostShades (length ns)) _ _ e₂ in
-    let e₄ = clear-tail (not (rising 0 ns)) _ _ e₃ in (
-      clear-head (unknownSpacing spacing) _ _ e,
-      record {
-        long = eqb-true (length rs) (rowsAt spacing * length ns) (not-false b₁ (clear-head (not b₁) _ _ e₁));
-        few = ltb-false mostShades (length ns) (clear-head (ltb mostShades (length ns)) _ _ e₂);
-        rises = not-false (rising 0 ns) (clear-head (not (rising 0 ns)) _ _ e₃);
-        fair = above-wider limit readerLimit rs h (clear-head (anyAbove limit rs) _ _ e₄);
-      },
-    )
+shades {limit} spacing ns rs room e h = (
+  clear-at _ e 0,
+  record {
+    long = eqb-true (length rs) (rowsAt spacing * length ns) (not-false (eqb (length rs) (rowsAt spacing * length ns)) (clear-at _ e 1));
+    few = ltb-false mostShades (length ns) (clear-at _ e 2);
+    rises = not-false (rising 0 ns) (clear-at _ e 3);
+    fair = above-wider limit readerLimit rs h (clear-at _ e 4);
+  },
+)
 
 -- the book of such shades, at any number of rows
 module _ (rows : ℕ) (fits : bodyLength rows < 65536) (ns rs : List ℕ) (bn : AllBelow 65536 ns) (h : Shades rows ns rs) where

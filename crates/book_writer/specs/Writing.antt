@@ -18,7 +18,7 @@ abbrev pub writeAnswer : Written → Numbered ℕ
 writeAnswer (Total n) = accepted n
 writeAnswer (Refused cause) = refusal cause
 
--- "Write (numbers, spectra, buffer): 1, 13, 14, 2, 15."; before them 17, "checked first in every call that names one"; 2 is by a limit
+-- "Write (numbers, spectra, buffer): 1, 13, 14, 2, 15."; before them 17, "checked first in every call that names one"; 2 goes by the limit
 unfoldable pub writeChecks : ℕ → ℕ → List ℕ → List ℕ → ℕ → List Check
 writeChecks limit spacing numbers readings room =
     check (unknownSpacing spacing) UnknownSpacing

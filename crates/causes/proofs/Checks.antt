@@ -2,7 +2,7 @@
 use mathlib.Core.Path.{_≡_, refl, ap}
 use mathlib.Core.Bool.{Bool, true, false, cond}
 use mathlib.Core.List.{List, [], _∷_, _++_}
-use Prim.Native.Nat.{ℕ}
+use Prim.Native.Nat.{ℕ, zero, suc}
 use native.Mathlib.Omega.{arith}
 use Rattle.causes.specs.declared.Cause.{Cause}
 use Rattle.causes.specs.declared.Checked.{Checked}
@@ -68,6 +68,17 @@ pub clear-tail : (b : Bool) (c : Cause) (cs : List Check) → firstOf (check b c
 unfolding firstOf
 clear-tail true c cs e = cc
 clear-tail false c cs e = e
+
+-- the condition of the check at a place, from 0
+abbrev pub holdsAt : List Check → ℕ → Bool
+holdsAt [] i = false
+holdsAt (c ∷ cs) zero = c .holds
+holdsAt (c ∷ cs) (suc i) = holdsAt cs i
+
+pub clear-at : (cs : List Check) → firstOf cs ≡ Clear → (i : ℕ) → holdsAt cs i ≡ false
+clear-at [] e i = refl
+clear-at (c ∷ cs) e zero = clear-head _ _ _ e
+clear-at (c ∷ cs) e (suc i) = clear-at cs (clear-tail _ _ _ e) i
 
 -- what holds of every refusal, and of the answer where the checks find nothing, holds of the outcome
 pub either : {A : Type 0} (t : Checked) (Q : A → Type 0) (f : Cause → A) (a : A) →

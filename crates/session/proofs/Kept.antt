@@ -8,7 +8,7 @@ use native.Mathlib.Omega.{arith}
 use Rattle.causes.specs.declared.Checked.the-variants.{Clear}
 use Rattle.causes.specs.Causes.{Numbered, accepted, refused}
 use Rattle.causes.specs.Checks.{firstOf}
-use Rattle.causes.proofs.Checks.{clear-head, clear-tail, either}
+use Rattle.causes.proofs.Checks.{clear-head, clear-at, either}
 use Rattle.cie.specs.Scales.{anyAbove, readerLimit, frameLimit}
 use Rattle.cie.specs.Sums.{Tables, sumsOf, whiteOf, White, AtMostTwice}
 use Rattle.cie.proofs.Scales.{above-wider}
@@ -51,7 +51,7 @@ kept-next l (open-tables t) k = either _ KeptAfter _ _ (λ c. k) (λ e. record {
 kept-next l (open-light light spacing) k =
     either _ KeptAfter _ _ (λ c. k) (λ e. record { tables = light-clear light spacing (clear-head _ _ _ e); standard = tt })
 kept-next l (set-standard readings) k =
-    either _ KeptAfter _ _ (λ c. k) (λ e. with-standard l (l .conditions) readings k (clear-head _ _ _ (clear-tail _ _ _ (clear-tail _ _ _ e))))
+    either _ KeptAfter _ _ (λ c. k) (λ e. with-standard l (l .conditions) readings k (clear-at _ e 2))
 kept-next l (set-tolerance space amount) k = either _ KeptAfter _ _ (λ c. k) (λ e. record { tables = k .tables; standard = k .standard })
 kept-next l (trial table readings) k = with-counted l table (triedAt l table readings) k
 kept-next l report k = k
@@ -59,9 +59,7 @@ kept-next l (look i) k = record { tables = k .tables; standard = k .standard }
 
 -- what the checks leave: an accepted white, and sums that do not exceed twice its own
 pub white-kept : (t : Tables) → Proper (held t) → White (whiteOf t)
-white-kept t e =
-    let d = clear-tail _ _ _ (clear-tail _ _ _ (clear-tail _ _ _ e)) in
-    record { lit = clear-head _ _ _ d; even = clear-head _ _ _ (clear-tail _ _ _ d) }
+white-kept t e = record { lit = clear-at _ e 3; even = clear-at _ e 4 }
 
 pub twice-kept : (t : Tables) (readings : List ℕ) → Readable (held readings) → AtMostTwice (whiteOf t) (sumsOf t readings)
 twice-kept t readings e = at-most-twice t readings (above-wider frameLimit readerLimit readings (omega arith) e)

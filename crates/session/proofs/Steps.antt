@@ -11,7 +11,7 @@ use Rattle.causes.specs.declared.Checked.{Checked}
 use Rattle.causes.specs.declared.Checked.the-variants.{Clear, Because}
 use Rattle.causes.specs.Causes.{Numbered, accepted, refused, refusal, causeNumber}
 use Rattle.causes.specs.Checks.{firstOf, unless}
-use Rattle.causes.proofs.Checks.{first-fires, first-passes, clear-head, clear-tail, either, refuses}
+use Rattle.causes.proofs.Checks.{first-fires, first-passes, clear-at, either, refuses}
 use Rattle.cie.specs.declared.Verdict.{Verdict}
 use Rattle.conditions.specs.Measure.{colourUnder}
 use Rattle.tallies.specs.declared.Tallies.{Tallies}
@@ -57,7 +57,7 @@ module _ (s : Session) (table : ℕ) (readings : List ℕ) where
   counted-when true =
       either (checksWhen true) (λ (a : Numbered TrialOutcome). countedBy s table a .session ≡ s) refusal answer (λ c. refl)
       (λ e.
-      let z : _≡_ {A = Bool} true false = clear-head _ _ _ (clear-tail _ _ _ (clear-tail _ _ _ (clear-tail _ _ _ (clear-tail _ _ _ e)))) in
+      let z : _≡_ {A = Bool} true false = clear-at _ e 4 in
       let o : _≡_ {A = ℕ} 0 1 = cc in absurd (omega arith))
 
   -- the session after a trial
@@ -73,12 +73,10 @@ module _ (s : Session) (table : ℕ) (readings : List ℕ) where
 
   full-because : checksWhen false ≡ Clear → checksWhen true ≡ Because SessionFull
   full-because e =
-      let opened = clear-tail _ _ _ e in
-      let standard = clear-tail _ _ _ opened in
-      first-passes _ _ _ (clear-head _ _ _ e)
-      ∙ first-passes _ _ _ (clear-head _ _ _ opened)
-      ∙ first-passes _ _ _ (clear-head _ _ _ standard)
-      ∙ first-passes _ _ _ (clear-head _ _ _ (clear-tail _ _ _ standard))
+      first-passes _ _ _ (clear-at _ e 0)
+      ∙ first-passes _ _ _ (clear-at _ e 1)
+      ∙ first-passes _ _ _ (clear-at _ e 2)
+      ∙ first-passes _ _ _ (clear-at _ e 3)
       ∙ first-fires _ _ _ refl
 
   refused-when : (full : Bool) (verdict : Verdict) → full ≡ true → ownVerdict ≡ some verdict →

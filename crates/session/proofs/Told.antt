@@ -3,7 +3,7 @@
 use mathlib.Core.List.{List}
 use Prim.Native.Nat.{ℕ}
 use Rattle.causes.specs.Causes.{Numbered, accepted, refused}
-use Rattle.causes.proofs.Checks.{clear-head, clear-tail, either}
+use Rattle.causes.proofs.Checks.{clear-at, either}
 use Rattle.cie.specs.Sums.{Tables, sumsOf, whiteOf}
 use Rattle.cie.proofs.Verdicts.{verdicts-right}
 use Rattle.trials.specs.Outcome.{Amount, TrialOutcome}
@@ -31,6 +31,4 @@ worked-out (held t) (held s) (held a) n readings p r e =
 pub tried-told : (l : Ledger) (table : ℕ) (readings : List ℕ) → Kept l → Owed l readings (triedAt l table readings)
 tried-told l table readings k =
     either _ (Owed l readings) _ _ (λ c. tt)
-    (λ e.
-    let f = clear-tail _ _ _ (clear-tail _ _ _ (clear-tail _ _ _ (clear-tail _ _ _ (clear-tail _ _ _ e)))) in
-    worked-out (l .conditions) (l .standard) (l .tolerance) (l .counts) readings (k .tables) (k .standard) (clear-head _ _ _ (clear-tail _ _ _ f)))
+    (λ e. worked-out (l .conditions) (l .standard) (l .tolerance) (l .counts) readings (k .tables) (k .standard) (clear-at _ e 6))

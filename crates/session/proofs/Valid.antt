@@ -5,7 +5,7 @@ use Prim.Native.Nat.{ℕ}
 use native.Mathlib.Omega.{arith}
 use borrow.Author.Tests.{eqb-false}
 use Rattle.causes.specs.Causes.{Numbered, accepted, refused}
-use Rattle.causes.proofs.Checks.{clear-head, clear-tail, either}
+use Rattle.causes.proofs.Checks.{clear-head, clear-tail, clear-at, either}
 use Rattle.cie.specs.Scales.{frameLimit}
 use Rattle.conditions.specs.Measure.{colourUnder}
 use Rattle.conditions.proofs.Sound.{sound-none, sound-tables, sound-light}
@@ -36,9 +36,8 @@ unfolding triedBy
 trial-valid s table readings v =
     either _ (λ (a : Numbered TrialOutcome). Valid (countedBy s table a .session)) _ _ (λ c. v)
     (λ e.
-    let room = clear-head _ _ _ (clear-tail _ _ _ (clear-tail _ _ _ (clear-tail _ _ _ (clear-tail _ _ _ e)))) in
     let k = colourUnder (s .conditions) readings in
-    after-trial s table (judgedAs k (judgedOf (s .standard) (s .tolerance) k)) v (eqb-false _ _ room))
+    after-trial s table (judgedAs k (judgedOf (s .standard) (s .tolerance) k)) v (eqb-false _ _ (clear-at _ e 4)))
 
 pub valid-fresh : Valid freshSession
 valid-fresh = record { standing = record { sound = sound-none; standard = tt; tallies = within-none } }
