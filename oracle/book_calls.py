@@ -9,9 +9,9 @@ from books import (
     LAST_SHADE, MIXTURES, books_of_note, damaged_book, made, mixed_books, overwrite,
     rising_numbers, whole_book,
 )
-from ledger import FRAME_LIMIT, Refused
+from ledger import FRAME_LIMIT, READER_LIMIT, Refused
 from lines import (
-    AROUND_LIMITS, OTHER, TOO_BRIGHT, UNKNOWN_SPACINGS, any_spectrum, changed, flat,
+    AROUND_LIMITS, AT_THE_FRAME, OTHER, TOO_BRIGHT, UNKNOWN_SPACINGS, any_spectrum, changed, flat,
 )
 from tables import LENGTHS
 
@@ -72,7 +72,7 @@ def faulty_write(chance, faults):
     room = size + chance.pick((0, 1, 90, 170))
     if faults & 32:
         room = chance.pick((0, 5, size - 2 * rows, size - 1, min(size - 1, total(10, count))))
-    readings = (*AROUND_LIMITS[2:], 65_535) if faults & 16 else AROUND_LIMITS[:2]
+    readings = (TOO_BRIGHT, READER_LIMIT, READER_LIMIT + 1, 65_535) if faults & 16 else AT_THE_FRAME
     spectra[chance.pick((0, -1, chance.below(rows)))] = chance.pick(readings)
     if faults & 8:
         place = chance.below(count)

@@ -7,7 +7,7 @@ import listing
 from book import ENTRY, HEAD, SHADE_LIMIT
 from chance import Chance
 from ledger import READER_LIMIT
-from lines import AROUND_LIMITS, OTHER, any_spectrum, changed, flat
+from lines import AROUND_LIMITS, IN_A_BOOK, OTHER, any_spectrum, changed, flat
 from near_limit import any_near
 from tables import LENGTHS
 
@@ -38,11 +38,13 @@ def made(chance, numbers, *spacings):
 
 
 def whole_book(chance, spacing):
-    """Now and then a shade has a sum near the limit of f, under the light of the listing."""
+    """With readings up to one around the limits; now and then a shade has a sum near the limit of
+    f, under the light of the listing."""
     numbers = rising_numbers(chance, chance.pick((0, 1, 2, 5, 20, 200)))
+    limit = chance.pick(IN_A_BOOK)
     return book.book_bytes([
         (number, any_near(chance, listing.LIGHT, spacing) if chance.one_in(20)
-         else any_spectrum(chance, spacing, READER_LIMIT)) for number in numbers])
+         else any_spectrum(chance, spacing, limit)) for number in numbers])
 
 
 def bright_books():
@@ -124,7 +126,7 @@ def damaged_book(chance, spacing):
         lambda: ("gap", data[:bodies] + b"\0\0" + data[bodies:]),
         lambda: ("trailing", data + chance.bytes(chance.pick((1, 2, length, other, length + 8)))),
         lambda: ("truncated", data[:chance.below(len(data))]),
-        lambda: ("reading", overwrite(data, any_row, chance.pick((*AROUND_LIMITS, 65_535)), 2)),
+        lambda: ("reading", overwrite(data, any_row, chance.pick((READER_LIMIT + 1, 65_535)), 2)),
         lambda: ("too many", made(chance, range(1, 202), spacing)),
         lambda: ("mixed", made(chance, numbers, *mixture)),
         lambda: ("mixture", chance.pick(list(

@@ -9,14 +9,13 @@ import replay
 from bright import around
 from chance import Chance
 from ledger import READER_LIMIT
-from lines import AROUND_LIMITS, any_spectrum, changed, flat
+from lines import AROUND_LIMITS, IN_A_BOOK, any_spectrum, changed, flat
 from near_limit import any_near, each_near
 from script import script
 from tables import LENGTHS, LIGHTS
 
 SEED = 1931
 HOST_CASES = "oracle/host_cases.txt"
-IN_A_BOOK = [reading for reading in AROUND_LIMITS if reading <= READER_LIMIT]
 
 
 def shades(chance):

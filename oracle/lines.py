@@ -38,9 +38,12 @@ REPORT = b"report"
 TOO_LARGE = 10**64 + 1  # for every place; cut to its low bits or low digits it would be 1
 OTHER = {5: 10, 10: 5}  # the other spacing
 
-# The last three are too bright for the frame, the last one for a book and the host call too.
-AROUND_LIMITS = FRAME_LIMIT - 1, FRAME_LIMIT, FRAME_LIMIT + 1, READER_LIMIT, READER_LIMIT + 1
-TOO_BRIGHT = FRAME_LIMIT + 1  # by as little as can be
+# Readings around both limits: those that the frame takes, those that only a book may hold and the
+# host call takes, and one that is too bright for all.
+AT_THE_FRAME = FRAME_LIMIT - 1, FRAME_LIMIT
+IN_A_BOOK = *AT_THE_FRAME, FRAME_LIMIT + 1, READER_LIMIT
+AROUND_LIMITS = *IN_A_BOOK, READER_LIMIT + 1
+TOO_BRIGHT = FRAME_LIMIT + 1  # for the frame, by as little as can be
 
 # Those from 261 on would be 5 or 10 if they were cut to their low bits or low digits.
 UNKNOWN_SPACINGS = (

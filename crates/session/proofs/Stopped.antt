@@ -1,12 +1,15 @@
 -- A spectrum with a reading above the frame's limit does not pass its checks, and what is answered with a colour has passed them. Assumes nothing.
-use mathlib.Core.Path.{_≡_, refl}
-use mathlib.Core.Bool.{true}
+use mathlib.Core.Path.{_≡_, refl, ap, _∙_}
+use mathlib.Core.Bool.{true, not}
 use mathlib.Core.List.{List}
 use Prim.Native.Nat.{ℕ}
 use native.Mathlib.Omega.{arith}
+use borrow.Author.Tests.{eq-eqb}
+use lib.ListN.{length}
 use Rattle.causes.specs.declared.Cause.{Cause}
+use Rattle.causes.specs.declared.Cause.the-variants.{OverBright}
 use Rattle.causes.specs.Causes.{Numbered, accepted, refusal, mapped}
-use Rattle.causes.proofs.Checks.{clear-at, either}
+use Rattle.causes.proofs.Checks.{fires, passes, clear-at, either}
 use Rattle.cie.specs.declared.Colour.{Colour}
 use Rattle.cie.specs.Scales.{anyAbove, frameLimit}
 use Rattle.trials.specs.Outcome.{TrialOutcome}
@@ -16,7 +19,7 @@ use Rattle.session.specs.declared.Session.{Session}
 use Rattle.session.specs.Call.{Call, set-standard}
 use Rattle.session.specs.Outcome.{Outcome, coloured, tried, seen}
 use Rattle.session.specs.Ledger.{held}
-use Rattle.session.specs.Served.{Reply, standingOf, foundOutcome, served}
+use Rattle.session.specs.Served.{Reply, refusedBy, standingOf, foundOutcome, served}
 use Rattle.session.specs.Brighter.{ColourAnswered, by-standard, by-trial, by-preview}
 use Rattle.session.specs.Stopped.{RefusedFrom, BrightStopped}
 use Rattle.session.proofs.Kept.{Readable}
@@ -45,5 +48,10 @@ module _ (s : Session) (readings : List ℕ) where
       let z : _≡_ {A = ℕ} 0 1 = cc in
       absurd (omega arith))
 
+  over-bright-alone : s .opened ≡ true → length readings ≡ s .conditions .rows → anyAbove frameLimit readings ≡ true →
+      served s (set-standard readings) ≡ refusedBy s OverBright
+  over-bright-alone opened rows h =
+      passes _ _ _ _ _ (ap not opened) ∙ passes _ _ _ _ _ (ap not (eq-eqb _ _ rows)) ∙ fires _ _ _ _ _ h
+
 pub bright-stopped : BrightStopped
-bright-stopped = record { accepted = λ a. coloured-passed _ _ (a .answered) refl; no-standard = refused-above }
+bright-stopped = record { accepted = λ a. coloured-passed _ _ (a .answered) refl; no-standard = refused-above; over-bright = over-bright-alone }

@@ -3,7 +3,9 @@ use mathlib.Core.Path.{_≡_}
 use mathlib.Core.Bool.{true, false}
 use mathlib.Core.List.{List}
 use Prim.Native.Nat.{ℕ}
+use lib.ListN.{length}
 use Rattle.causes.specs.declared.Cause.{Cause}
+use Rattle.causes.specs.declared.Cause.the-variants.{OverBright}
 use Rattle.cie.specs.declared.Colour.{Colour}
 use Rattle.cie.specs.Scales.{anyAbove, frameLimit}
 use Rattle.cie.specs.Sums.{Tables}
@@ -23,3 +25,6 @@ pub record BrightStopped : Type 0 where
   pub accepted : {t : Tables} {readings : List ℕ} {colour : Colour} → AcceptedSpectrum t readings colour → anyAbove frameLimit readings ≡ false
   -- "such a shade can't be set as a standard": in every session, from whatever book it was read
   pub no-standard : (s : Session) (readings : List ℕ) → anyAbove frameLimit readings ≡ true → RefusedFrom s (served s (set-standard readings))
+  -- and as over-bright, where conditions are opened and it has their rows
+  pub over-bright : (s : Session) (readings : List ℕ) → s .opened ≡ true → length readings ≡ s .conditions .rows →
+      anyAbove frameLimit readings ≡ true → served s (set-standard readings) ≡ refusedBy s OverBright
