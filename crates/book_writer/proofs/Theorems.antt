@@ -7,7 +7,6 @@ use native.Mathlib.Omega.{arith}
 use mathlib.Core.List.{List, _++_}
 use lib.ListN.{length, getD, drop}
 use lib.Seq.{take-at}
-use lib.Dec.{eqb, ltb}
 use borrow.Author.Tests.{eqb-true, ltb-false, not-false}
 use Rattle.causes.specs.Causes.{accepted}
 use Rattle.causes.specs.declared.Checked.the-variants.{Clear}
@@ -36,13 +35,13 @@ record Shades (rows : ℕ) (ns rs : List ℕ) : Type 0 where
 shades : {limit : ℕ} (spacing : ℕ) (ns rs : List ℕ) (room : ℕ) → firstOf (writeChecks limit spacing ns rs room) ≡ Clear → limit ≤ readerLimit
     → (unknownSpacing spacing ≡ false) × Shades (rowsAt spacing) ns rs
 unfolding writeChecks
-shades {limit} spacing ns rs room e h = (
+shades spacing ns rs room e h = (
   clear-at _ e 0,
   record {
-    long = eqb-true (length rs) (rowsAt spacing * length ns) (not-false (eqb (length rs) (rowsAt spacing * length ns)) (clear-at _ e 1));
-    few = ltb-false mostShades (length ns) (clear-at _ e 2);
-    rises = not-false (rising 0 ns) (clear-at _ e 3);
-    fair = above-wider limit readerLimit rs h (clear-at _ e 4);
+    long = eqb-true _ _ (not-false _ (clear-at _ e 1));
+    few = ltb-false _ _ (clear-at _ e 2);
+    rises = not-false _ (clear-at _ e 3);
+    fair = above-wider _ _ rs h (clear-at _ e 4);
   },
 )
 

@@ -7,7 +7,7 @@ use Rattle.causes.specs.declared.Cause.{Cause}
 use Rattle.causes.specs.declared.Checked.the-variants.{Clear, Because}
 use Rattle.causes.specs.Causes.{causeNumber}
 use Rattle.causes.specs.Checks.{firstOf}
-use Rattle.causes.proofs.Checks.{clear-head, clear-tail, numbered-refused, numbered-accepted}
+use Rattle.causes.proofs.Checks.{clear-at, numbered-refused, numbered-accepted}
 use Rattle.cie.specs.declared.Sums.{Sums}
 use Rattle.cie.specs.declared.Colour.{Colour}
 use Rattle.cie.specs.Spacing.{mostRows}
@@ -33,8 +33,8 @@ pub spectrum-of : (limit rows : ℕ) (readings : List ℕ) → limit ≤ readerL
     firstOf (spectrumChecks limit rows readings) ≡ Clear → Spectrum readings
 spectrum-of limit rows readings h k e =
     record {
-      few = omega (arith, k, long rows readings (clear-head _ _ _ e));
-      scale = above-wider limit readerLimit readings h (clear-head _ _ _ (clear-tail _ _ _ e));
+      few = omega (arith, k, long rows readings (clear-at _ e 0));
+      scale = above-wider limit readerLimit readings h (clear-at _ e 1);
     }
 
 -- what a colour is found of: the white's own point, an accepted white, and sums at most twice its own

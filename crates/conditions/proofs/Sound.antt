@@ -9,7 +9,7 @@ use lib.Dec.{eqb, lit≤}
 use lib.ListN.{length, replicate}
 use Rattle.causes.specs.declared.Checked.the-variants.{Clear}
 use Rattle.causes.specs.Checks.{firstOf}
-use Rattle.causes.proofs.Checks.{clear-head, clear-tail}
+use Rattle.causes.proofs.Checks.{clear-at}
 use Rattle.cie.specs.declared.Sums.{Sums}
 use Rattle.cie.specs.Spacing.{fineSpacing, coarseSpacing, unknownSpacing, mostRows, rowsAt}
 use Rattle.cie.specs.Scales.{whiteReading, anyAbove}
@@ -43,11 +43,7 @@ white-same t h =
 
 pub sound-tables : (t : Tables) → firstOf (tableChecks t) ≡ Clear → Sound (conditionsOf t)
 sound-tables t e =
-    let e₁ = clear-tail _ _ _ e in
-    let e₂ = clear-tail _ _ _ e₁ in
-    let e₃ = clear-tail _ _ _ e₂ in
-    let e₄ = clear-tail _ _ _ e₃ in
-    let f = fit t (search clear-head) (search clear-head) in
+    let f = fit t (clear-at _ e 1) (clear-at _ e 2) in
     let i = f .illuminant in
     let w = white-same t (matched (t .spacing) i (f .x) .0) in
     record {
@@ -59,7 +55,7 @@ sound-tables t e =
       least-y = omega (arith, ap (λ (s : Sums). s .y) w);
       least-z = omega (arith, ap (λ (s : Sums). s .z) w);
       point = refl;
-      white = record { lit = search clear-head; even = search clear-head };
+      white = record { lit = clear-at _ e 3; even = clear-at _ e 4 };
     }
 
 pub sound-none : Sound noConditions

@@ -43,6 +43,6 @@ tableChecks t =
 abbrev pub lightChecks : ℕ → ℕ → List Check
 lightChecks light spacing = check (unknownSpacing spacing) UnknownSpacing ∷ check (unknownLight light) NoSuchLight ∷ []
 
--- 1, short table, by the rows of the spacing; 2, over-bright: a reading above the limit that the call goes by
+-- 1, short table, by the rows of the spacing; 2, over-bright: "a reading above" the limit that the call goes by
 abbrev pub spectrumChecks : ℕ → ℕ → List ℕ → List Check
 spectrumChecks limit rows readings = check (short rows readings) ShortTable ∷ check (anyAbove limit readings) OverBright ∷ []

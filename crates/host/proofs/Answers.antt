@@ -14,7 +14,7 @@ use Rattle.causes.specs.declared.Cause.the-variants.{ShortBuffer}
 use Rattle.causes.specs.declared.Checked.the-variants.{Clear, Because}
 use Rattle.causes.specs.Causes.{causeNumber, accepted, refused}
 use Rattle.causes.specs.Checks.{check, firstOf}
-use Rattle.causes.proofs.Checks.{fires, passes, ends, refuses, clear-head, clear-tail, first-because, first-clear, numbered-refused, numbered-accepted}
+use Rattle.causes.proofs.Checks.{fires, passes, ends, refuses, clear-at, first-because, first-clear, numbered-refused, numbered-accepted}
 use Rattle.cie.specs.Lights.{lightTables}
 use Rattle.cie.proofs.TableRows.{told-known}
 use Rattle.cie.proofs.Sizes.{colour-sized}
@@ -67,10 +67,9 @@ module _ (light : ℕ) (bytes : List ℕ) where
   unfolding hostColour
   found-small c e =
       let f = found-colour c e in
-      let fair = clear-head _ _ _ (clear-tail _ _ _ (clear-tail _ _ _ (f .0))) in
       let s = hostSpacing bytes in
       let white = sound-light light s (told-known (length bytes)) .white in
-      let sized = colour-sized white (at-most-twice (lightTables light s) (hostReadings bytes) fair) in
+      let sized = colour-sized white (at-most-twice (lightTables light s) (hostReadings bytes) (clear-at _ (f .0) 2)) in
       omega (arith, sized .l, ap (λ (k : Coordinates). k .l) (f .1))
 
   -- the returns

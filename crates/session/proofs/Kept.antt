@@ -14,7 +14,7 @@ use Rattle.cie.specs.Sums.{Tables, sumsOf, whiteOf, White, AtMostTwice}
 use Rattle.cie.proofs.Scales.{above-wider}
 use Rattle.conditions.specs.Checks.{tableChecks}
 use Rattle.conditions.proofs.Dots.{at-most-twice}
-use Rattle.conditions.proofs.Sound.{light-clear}
+use Rattle.conditions.proofs.Sound.{light-clear, sound-tables}
 use Rattle.trials.specs.Outcome.{TrialOutcome}
 use Rattle.session.specs.Call.{Call, open-tables, open-light, set-standard, set-tolerance, trial, report, look}
 use Rattle.session.specs.Ledger.{Held, none, held, Ledger, emptyLedger, Entry, standardAt, triedAt, countedAt, entered}
@@ -59,7 +59,7 @@ kept-next l (look i) k = record { tables = k .tables; standard = k .standard }
 
 -- what the checks leave: an accepted white, and sums that do not exceed twice its own
 pub white-kept : (t : Tables) → Proper (held t) → White (whiteOf t)
-white-kept t e = record { lit = clear-at _ e 3; even = clear-at _ e 4 }
+white-kept t e = sound-tables t e .white
 
 pub twice-kept : (t : Tables) (readings : List ℕ) → Readable (held readings) → AtMostTwice (whiteOf t) (sumsOf t readings)
 twice-kept t readings e = at-most-twice t readings (above-wider frameLimit readerLimit readings (omega arith) e)
