@@ -16,6 +16,7 @@ from near_limit import near_the_limit
 from published import flat, three_rows
 from replay import READING_BITS, Step, answer, at_table, whole_table
 from spacings import old_openings
+from spots import any_pooling
 from tables import LENGTHS
 from unreadable import unreadable
 
@@ -158,6 +159,16 @@ class CallList:
         if self.chance.one_in(2):
             self.say(REPORT)
 
+    def pool_spots(self):
+        """Mostly accepted; the pooled spectrum is then tried or set as the standard."""
+        spacing = self.in_force()
+        self.say(any_pooling(self.chance, spacing, self.named(spacing)))
+        pooled = self.steps[-1].result
+        if pooled and self.chance.one_in(2):
+            self.say(standard(pooled.readings))
+        elif pooled:
+            self.say(trial(self.table_number(), pooled.readings))
+
     def judge_at_the_guard(self):
         """A spectrum near the standard, tried and now and then previewed at tolerances at the
         edges of its difference."""
@@ -212,7 +223,8 @@ MOVES = (
     [CallList.open_light] * 3 + [CallList.open_tables] * 2 + [CallList.enter_standard] * 5
     + [CallList.enter_tolerance] * 4 + [CallList.enter_trial] * 10 + [CallList.look] * 5
     + [CallList.judge_at_the_guard] * 10 + [CallList.judge_at_the_limit] * 2
-    + [CallList.say_report] * 2 + [CallList.say_unreadable] + [CallList.damage_a_line]
+    + [CallList.pool_spots] * 2 + [CallList.say_report] * 2 + [CallList.say_unreadable]
+    + [CallList.damage_a_line]
 )
 
 

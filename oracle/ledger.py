@@ -10,9 +10,9 @@ from tables import LENGTHS, LIGHTS, light_tables
 
 SHORT_TABLE, OVER_BRIGHT, OFF_SCALE_CONDITION, DARK_WHITE, LOPSIDED_WHITE = 1, 2, 3, 4, 5
 NO_CONDITIONS, NO_STANDARD, NO_TOLERANCE, TOLERANCE_OFF_SCALE, SESSION_FULL = 6, 7, 8, 9, 10
-NO_SUCH_LIGHT, UNKNOWN_SPACING, NO_SUCH_TABLE = 16, 17, 18
+NO_SUCH_LIGHT, UNKNOWN_SPACING, NO_SUCH_TABLE, SPOT_COUNT = 16, 17, 18, 19
 
-FRAME_LIMIT = 12_000  # of readings that are measured in a session or written into a book
+FRAME_LIMIT = 12_000  # of readings measured in a session, written into a book or pooled
 READER_LIMIT = 20_000  # of readings in a book that is read or listed, and in a host call
 ILLUMINANT_LIMIT = 3_000_000
 OBSERVER_LIMIT = 2_000_000

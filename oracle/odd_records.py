@@ -1,5 +1,5 @@
 """Records of calls of every odd kind: words that nobody meant, numbers of no inspection table,
-parts at the end of a pool and past it, buffers that are too short."""
+parts at the end of a slice and past it, buffers that are too short."""
 
 from array import array
 from functools import partial
@@ -22,7 +22,7 @@ def empty_lists(chance):
 
 
 def ends(size, rows):
-    """Parts that end with a pool of that size, and parts that run past its end."""
+    """Parts that end with a slice of that size, and parts that run past its end."""
     last, far = size - rows, WORD_LIMIT - 1
     return ((last, rows), (last + 1, rows), (last, rows + 1), (size, 0), (size + 1, 0),
             (size, rows), (size + 1, rows), (WORD_LIMIT - rows, rows), (far, rows),
@@ -31,7 +31,7 @@ def ends(size, rows):
 
 def parts_at_the_end(chance, spacing):
     """Standards, trials, previews and each of an opening's tables, as parts at the end of their
-    pool, with the rows of that spacing and of the other."""
+    slice, with the rows of that spacing and of the other."""
     held = Recorder(chance)
     whole = [put(held.tables, table) for table in three_rows(spacing)]
     for _ in range(4):

@@ -70,6 +70,11 @@ class Built:
         data = b"".join(map(call_bytes, calls))
         return results(drive("book_driver", PROBE, data), [len(call.lent) for call in calls])
 
+    def pool(self, calls):
+        """Result and what is left in the places, as bytes, for each call."""
+        data = b"".join(map(pool_bytes, calls))
+        return results(drive("pool_driver", PROBE, data), [len(call.lent) for call in calls])
+
     def lists(self, runs):
         """Result and what is left in the buffer, as bytes, for each list of calls."""
         data = b"".join(map(run_bytes, runs))
@@ -91,6 +96,10 @@ class StandIn(Built):
 
     def book(self, calls):
         from book_calls import answer
+        return [answer(call) for call in calls]
+
+    def pool(self, calls):
+        from pool_calls import answer
         return [answer(call) for call in calls]
 
     def lists(self, runs):
@@ -117,6 +126,11 @@ def call_bytes(call):
         return head + words(call.numbers) + words(call.spectra) + call.lent
     head = native(1, call.spacing, len(call.data), call.number, len(call.lent) // 2)
     return head + call.data + call.lent
+
+
+def pool_bytes(call):
+    head = native(call.spacing, call.count, len(call.readings), len(call.lent) // 2)
+    return head + words(call.readings) + call.lent
 
 
 def run_bytes(run):

@@ -1,5 +1,5 @@
 """Lists of calls held in slices, and their answers, as crates/calls/specs/Records.antt lays them
-out: ten words a call, its tables and spectra as parts of two pools, thirty-two words an answer."""
+out: ten words a call, its tables and spectra as parts of two slices, thirty-two words an answer."""
 
 from array import array
 from collections import namedtuple
@@ -21,7 +21,7 @@ WORD, READING = "I", "H"  # array's letters for 32 and 16 bits
 WORD_BYTES = 4
 WORD_LIMIT = 2**32
 
-# The records and both pools as arrays; the buffer that is lent, as bytes.
+# The records and both slices as arrays; the buffer that is lent, as bytes.
 Run = namedtuple("Run", "records tables spectra lent")
 
 
@@ -87,16 +87,18 @@ class Recorder:
         return held._replace(lent=self.chance.bytes(answers_size(held) + WORD_BYTES * spare))
 
 
-def put(pool, entries):
-    """Puts a table into its pool, and says where it starts and how long it is."""
-    pool.extend(entries)
-    return len(pool) - len(entries), len(entries)
+def put(slice, entries):
+    """Puts a table into its slice, and says where it starts and how long it is."""
+    slice.extend(entries)
+    return len(slice) - len(entries), len(entries)
 
 
 def recorded(chance, steps):
     """The calls of a script's lines as a run, and the steps that are calls."""
     held, made = Recorder(chance), []
     for step in steps:
+        if replay.is_pooling(step.line):
+            continue
         try:
             replay.call(held, step.line)
         except replay.Unreadable:
@@ -118,9 +120,9 @@ def repeated(chance, head, times, tail):
 
 # What a run gives back and leaves
 
-def part(pool, start, count):
+def part(slice, start, count):
     """Nothing where it runs past the end."""
-    return pool[start:start + count] if start + count <= len(pool) else []
+    return slice[start:start + count] if start + count <= len(slice) else []
 
 
 def call(ledger, run, at):

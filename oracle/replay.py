@@ -6,10 +6,12 @@ Rules where the design's text is silent:
 - Words are apart by exactly one space; no leading or trailing space, no extra word.
 - A number is one or more of the digits 0 to 9; leading zeros are allowed, signs are not. One too
   large for its place counts as the largest that fits there: readings have 16 bits; entries of an
-  opening's tables, the tolerance's amount, the light number, the spacing and the number of an
-  inspection table have 32; a length has 64.
-- An opening's table or a spectrum has any length, 0 included, but as many numbers must follow as it
-  says.
+  opening's tables, the tolerance's amount, the light number, the spacing, the number of an
+  inspection table and the number of spots have 32; a length has 64.
+- An opening's table, a spectrum or the spots of a pooling have any length, 0 included, but as many
+  numbers must follow as it says.
+- A pooling is no call of the session, and may stand anywhere. The places that it is lent have the
+  rows of its spacing.
 - A line that was a call in the form of an earlier job is read in the form of today: where its
   numbers happen to fit that, it is the call that they say.
 Any other line is unreadable and is no call.
@@ -19,12 +21,16 @@ from collections import namedtuple
 
 from colour import Colour
 from ledger import Ledger, Preview, Refused, Trial
+from pooling import pool
+from tables import LENGTHS
 
 READING_BITS, LENGTH_BITS = 16, 64
-ENTRY_BITS = 32  # also of an amount, a light, a spacing and an inspection table's number
+ENTRY_BITS = 32  # also of an amount, a light, a spacing, an inspection table and a spot count
 
-# result is what the ledger returned: None, a Colour, a Trial, a Preview or the tallies.
+# result is what the ledger returned: None, a Colour, a Trial, a Preview or the tallies; or the
+# Spectrum of a pooling.
 Step = namedtuple("Step", "number line answer result")
+Spectrum = namedtuple("Spectrum", "readings")
 
 
 class Unreadable(Exception):
@@ -78,9 +84,24 @@ def four_tables(words):
     return tables
 
 
+def is_pooling(line):
+    """Whether a line asks for no call of the session, if it is readable."""
+    return line.split(b" ", 1)[0] == b"pool"
+
+
+def pooling(words):
+    spacing, count = so_many(2, words[:2])
+    readings = whole_table(words[2:], READING_BITS)
+    places = [0] * LENGTHS.get(spacing, 0)
+    pool(spacing, count, readings, places)
+    return Spectrum(places)
+
+
 def call(ledger, line):
     """Reads a line whole before the ledger sees it, then makes its call."""
     name, *words = line.split(b" ")
+    if is_pooling(line):
+        return pooling(words)
     if name == b"light":
         return ledger.open_light(*so_many(2, words))
     if name == b"open":
@@ -109,6 +130,8 @@ def answer_text(result):
         return f"{result.verdict} {result.difference} {numbers(result.colour)}"
     if isinstance(result, Colour):
         return f"colour {numbers(result)}"
+    if isinstance(result, Spectrum):
+        return f"spectrum {numbers([len(result.readings), *result.readings])}"
     return f"tallies {numbers(result)}"
 
 

@@ -27,6 +27,32 @@ def odd_trials(word):
     )]
 
 
+def no_poolings():
+    """Lines that begin with the word of a pooling and are none."""
+    two = f"162 {' '.join(['7'] * 162)}"
+    return [f"pool{rest}".encode("latin-1") for rest in (
+        "", " ", " 5", " 5 ", " 5 2", " 5 2 ", " 5 2 x", " 5 2 1", " 5 2 1 ", " 5 2 2 7",
+        " 5 2 1 7 7", " 5 2 1 -7", " 5 2 0 ", " 5 2 0 0", "  5 2 0", " 5  2 0", " 5 2  0",
+        " 5\t2 0", " 5 2\t0", " 5 2 0\r", " -5 2 0", " 5 -2 0", " +5 2 0", " 5 +2 0",
+        " five 2 0", " 5 two 0", " 5.0 2 0", " 0x5 2 0", " 5 2, 0", " \xd9\xa5 2 0",
+        " 5 \xff 0", "5 2 0",
+        "s 5 2 0", "ed 5 2 0", " lab 5 2 0", " 5 lab 2 0", " pool 5 2 0", f" 5 {two}",
+        f" {two}", f" 5 2 5 {two}", f" 5 2 {two} 7", f" 5 2 {two} ", f" 5 2 {two}\r",
+        f" 5 2 {two[:-2]}", f" 5 2 {two[:-1]}x", f" 5 2 {two[:-2]}  7", f" 5 2 {2**32}{two[3:]}",
+        f" 5 2 {2**64 + 162}{two[3:]}", f" 5 2 {TOO_LARGE} 0", f" 5 2 {two} {two}",
+    )] + [b"Pool 5 2 0", b"poo 5 2 0", b" pool 5 2 0", b"5 pool 2 0", b"spectrum 0"]
+
+
+def odd_poolings():
+    """Odd lines that are a pooling: refused with 17, 19 or 1, and two that are accepted."""
+    two = f"162 {' '.join(['07'] * 162)}"
+    return [f"pool{rest}".encode() for rest in (
+        " 0 0 0", " 00 000 0000", " 5 0 0", " 005 002 000", " 5 2 0", " 5 2 1 7", " 10 16 0",
+        f" {TOO_LARGE} 2 0", f" 5 {TOO_LARGE} 0", f" 5 2 1 {TOO_LARGE}", f" 5 {2**32 + 2} {two}",
+        f" {2**32 + 5} 2 {two}", f" {'0' * 40}5 {'0' * 40}2 {two}", f" 5 2 000{two}",
+    )]
+
+
 def unreadable():
     return [
         b"", b" ", b"  ", b"\t", b"\r", b"\0", b"report ", b" report", b"report\r", b"report\0",
@@ -55,6 +81,7 @@ def unreadable():
         f"standard {ZEROS[:-1]}x".encode(), f"standard {ZEROS[:-2]}  0".encode(),
         *no_trials("trial"), *no_trials("preview"), b"Trial 8 0", b"tria 8 0", b" trial 8 0",
         b"Preview 8 0", b"previe 8 0", b" preview 8 0", b"8 trial 0", b"standard 8 0",
+        *no_poolings(),
         b"open", b"open ", b"open 5", b"open 5 0", b"open 5 0 0 0", b"open 5 0 0 0 ",
         b"open 5 0 0 0 0 0", b"open 5 0 0 0 0 ", b"open  5 0 0 0 0", b"open 5  0 0 0 0",
         b"open five 0 0 0 0", b"open -5 0 0 0 0", b"open 5, 0 0 0 0", b"open 0 0 0 0",
@@ -71,5 +98,5 @@ def unreadable():
         b"standard 0", *odd_trials("trial"), *odd_trials("preview"),
         f"standard 00081 {ZEROS[3:]}".encode(), *odd_trials("trial"),
         b"tolerance lab 000000000000000000000000000007", *odd_trials("preview"),
-        *odd_trials("trial"), REPORT, b"",
+        *odd_trials("trial"), *odd_poolings(), REPORT, b"",
     ]

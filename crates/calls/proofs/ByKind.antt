@@ -20,10 +20,10 @@ module _ {s : Session} {r : Served} where
   meets-as : {c c′ : Call} → c ≡ c′ → Meets s c r → Meets s c′ r
   meets-as e m = subst (λ (c : Call). Meets s c r) e m
 
-  pub opens-tables : (pool words : List ℕ) {spacing : ℕ} {i x y z : List ℕ} → spacing ≡ wordAt words 9
-      → i ≡ partAt pool words 1 → x ≡ partAt pool words 3 → y ≡ partAt pool words 5 → z ≡ partAt pool words 7
-      → Meets s (open-tables (tablesOf spacing i x y z)) r → Meets s (open-tables (tablesAt pool words)) r
-  opens-tables pool words e p q u v m = meets-as (λ j. open-tables (tablesOf (e j) (p j) (q j) (u j) (v j))) m
+  pub opens-tables : (slice words : List ℕ) {spacing : ℕ} {i x y z : List ℕ} → spacing ≡ wordAt words 9
+      → i ≡ partAt slice words 1 → x ≡ partAt slice words 3 → y ≡ partAt slice words 5 → z ≡ partAt slice words 7
+      → Meets s (open-tables (tablesOf spacing i x y z)) r → Meets s (open-tables (tablesAt slice words)) r
+  opens-tables slice words e p q u v m = meets-as (λ j. open-tables (tablesOf (e j) (p j) (q j) (u j) (v j))) m
 
   module _ {words tables spectra : List ℕ} {kind : ℕ} (k : Kind words tables spectra kind) where
     -- the call of the kind n, which the arm makes

@@ -1,4 +1,4 @@
--- A part of a pool: the code's test is that of the definition, so what it lends is that part, or nothing. Assumes nothing.
+-- A part of a slice: the code's test is that of the definition, so what it lends is that part, or nothing. Assumes nothing.
 use mathlib.Core.Path.{_≡_, ap, subst, _∙_}
 use mathlib.Core.List.{List, []}
 use Prim.Native.Nat.{ℕ, _+_, _≤_, _<_}
@@ -8,12 +8,12 @@ use borrow.Author.Tests.{le-leb, lt-leb}
 use lib.ListN.{length, take, drop}
 use Rattle.calls.specs.Records.{partOf, Lies}
 
-module _ (pool : List ℕ) (start count : ℕ) where
-  part-inside : start + count ≤ length pool → take count (drop start pool) ≡ partOf pool start count
+module _ (slice : List ℕ) (start count : ℕ) where
+  part-inside : start + count ≤ length slice → take count (drop start slice) ≡ partOf slice start count
   unfolding partOf
   part-inside h = simp (le-leb _ _ h)
 
-  part-outside : length pool < start + count → [] ≡ partOf pool start count
+  part-outside : length slice < start + count → [] ≡ partOf slice start count
   unfolding partOf
   part-outside h = simp (lt-leb _ _ h)
 
@@ -23,11 +23,11 @@ module _ (start count room : ℕ) where
       record {
         order = omega arith;
         within = h;
-        between = λ pool e. ap (λ (n : ℕ). take n (drop start pool)) (add-sub-cancel-left start count) ∙ part-inside pool start count (omega arith);
+        between = λ slice e. ap (λ (n : ℕ). take n (drop start slice)) (add-sub-cancel-left start count) ∙ part-inside slice start count (omega arith);
       }
 
   outside : room < start + count → Lies start count room 0 0
-  outside h = record { order = omega arith; within = omega arith; between = λ pool e. part-outside pool start count (omega arith) }
+  outside h = record { order = omega arith; within = omega arith; between = λ slice e. part-outside slice start count (omega arith) }
 
 -- the two words, as they are read
 module _ {start count room a b : ℕ} (p : a ≡ start) (q : b ≡ count) where

@@ -1,16 +1,16 @@
 -- Calls and answers as records of 32-bit words. This is the one place where the records are laid out. Assumes nothing.
 --
 -- A call is ten words. The first says which call it is:
---   1  open tables: the illuminant, x, y and z, each as a part of the pool of tables (words 1 2, 3 4, 5 6, 7 8: where it starts, how long it is),
+--   1  open tables: the illuminant, x, y and z, each as a part of the slice of tables (words 1 2, 3 4, 5 6, 7 8: where it starts, how long it is),
 --      and the spacing (word 9)
 --   2  open a built-in light: its number (word 1) and the spacing (word 2)
---   3  standard: its readings, as a part of the pool of spectra (words 1 2)
+--   3  standard: its readings, as a part of the slice of spectra (words 1 2)
 --   4  tolerance in CIELAB: the amount (word 1)
 --   5  tolerance in CIELUV: the amount (word 1)
---   6  trial: its readings, as a part of the pool of spectra (words 1 2), and its inspection table (word 3)
+--   6  trial: its readings, as a part of the slice of spectra (words 1 2), and its inspection table (word 3)
 --   7  preview: as a trial
 --   any other number: report
--- Words that a call does not name may hold anything. A part that runs past the end of its pool is a table of length 0. A record that ends early
+-- Words that a call does not name may hold anything. A part that runs past the end of its slice is a table of length 0. A record that ends early
 -- counts as one that goes on with zeros.
 --
 -- An answer is thirty-two words. The first says what it is:
@@ -49,27 +49,27 @@ callWords = 10
 abbrev pub answerWords : ℕ
 answerWords = 32
 
--- a part of a pool, or nothing where it runs past the end
+-- a part of a slice, or nothing where it runs past the end
 unfoldable pub partOf : List ℕ → ℕ → ℕ → List ℕ
-partOf pool start count = cond (leb (start + count) (length pool)) (take count (drop start pool)) []
+partOf slice start count = cond (leb (start + count) (length slice)) (take count (drop start slice)) []
 
--- where that part stands: in every pool of that length it is what lies between two places
+-- where that part stands: in every slice of that length it is what lies between two places
 pub record Lies (start count room from to : ℕ) : Type 0 where
   pub order : from ≤ to
   pub within : to ≤ room
-  pub between : (pool : List ℕ) → length pool ≡ room → take (to - from) (drop from pool) ≡ partOf pool start count
+  pub between : (slice : List ℕ) → length slice ≡ room → take (to - from) (drop from slice) ≡ partOf slice start count
 
 -- a word of a record
 abbrev pub wordAt : List ℕ → ℕ → ℕ
 wordAt words i = getD words i 0
 
--- the part of a pool that two words of a record name, one after the other
+-- the part of a slice that two words of a record name, one after the other
 abbrev pub partAt : List ℕ → List ℕ → ℕ → List ℕ
-partAt pool words i = partOf pool (wordAt words i) (wordAt words (i + 1))
+partAt slice words i = partOf slice (wordAt words i) (wordAt words (i + 1))
 
 -- the tables that a record names
 abbrev pub tablesAt : List ℕ → List ℕ → Tables
-tablesAt pool words = tablesOf (wordAt words 9) (partAt pool words 1) (partAt pool words 3) (partAt pool words 5) (partAt pool words 7)
+tablesAt slice words = tablesOf (wordAt words 9) (partAt slice words 1) (partAt slice words 3) (partAt slice words 5) (partAt slice words 7)
 
 -- the call of a kind, with the other words of its record
 unfoldable pub callOfKind : ℕ → List ℕ → List ℕ → List ℕ → Call

@@ -1,4 +1,4 @@
-// Runs a whole list of calls that is held in slices: ten words a call, with its tables and spectra as parts of two pools, and
+// Runs a whole list of calls that is held in slices: ten words a call, with its tables and spectra as parts of two slices, and
 // thirty-two words for each answer. specs/Records.antt lays the records out.
 ghost use mathlib.Core.Path.{_≡_};
 ghost use Prim.Native.Nat.{_+_, _<_};
@@ -50,13 +50,13 @@ fn word(words: &[u32], i: usize) -> u32
     0
 }
 
-// Where a part of a pool begins and ends.
+// Where a part of a slice begins and ends.
 struct Part {
     from: usize,
     to: usize,
 }
 
-// The part that two words of a record name in a pool of so many, or an empty one where it runs past the end.
+// The part that two words of a record name in a slice of so many, or an empty one where it runs past the end.
 fn part_at(words: &[u32], i: usize, room: usize) -> Part
     requires { ⌜ i < callWords ⌝ }
     ensures { λ r. ⌜ Lies (wordAt (now (words .entry)) i) (wordAt (now (words .entry)) (i + 1)) room (r .from) (r .to) ⌝ }

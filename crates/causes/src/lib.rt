@@ -21,6 +21,7 @@ pub enum Cause {
     NoSuchLight,
     UnknownSpacing,
     NoSuchTable,
+    SpotCount,
 }
 
 // What checks in an order find: nothing, or the cause of the first that holds.
@@ -52,5 +53,6 @@ pub fn number(cause: Cause) -> u32
         Cause::NoSuchLight => 16,
         Cause::UnknownSpacing => 17,
         Cause::NoSuchTable => 18,
+        Cause::SpotCount => 19,
     }
 }

@@ -18,9 +18,9 @@ countCode (causes.accepted n) = n
 countCode (causes.refused cause) = 2 ^ 32 + cause
 
 -- 0, or the cause's number
-abbrev pub readCode : Numbered ℕ → ℕ
-readCode (causes.accepted n) = 0
-readCode (causes.refused cause) = cause
+abbrev pub causeCode : Numbered ℕ → ℕ
+causeCode (causes.accepted n) = 0
+causeCode (causes.refused cause) = cause
 
 -- the session that a call leaves
 unfoldable pub after : Session → Call → Session

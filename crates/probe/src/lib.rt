@@ -1,16 +1,18 @@
-// The book's calls, the run of a list of calls and a run of trials, for tests and benchmarks in C: no part of the product.
+// The book's calls, the pooling of spots, the run of a list of calls and a run of trials, for tests and benchmarks in C: no part of the product.
 ghost use mathlib.Core.Path.{_≡_};
 ghost use lib.ListN.{length};
 ghost use Rattle.book.specs.Reading.{found, placesAfterRead};
 ghost use Rattle.book_writer.specs.Writing.{written, bufferAfterWrite};
+ghost use Rattle.pool.specs.Pooling.{pooled, placesAfterPool};
 ghost use Rattle.calls.specs.Run.{ran, answersAfter};
 ghost use Rattle.session.specs.Served.{outcomeOf, Valid};
-ghost use Rattle.probe.specs.Probe.{countCode, readCode, passedIn, afterTrials, sessionFor, passCount};
+ghost use Rattle.probe.specs.Probe.{countCode, causeCode, passedIn, afterTrials, sessionFor, passCount};
 use book::Found;
 use book_writer::Written;
 use calls::Ran;
 use cie::Space;
 use cie::spacing::FINE_SPACING;
+use pool::Pooled;
 use session::Answer;
 use session::Session;
 
@@ -37,12 +39,24 @@ pub extern "C" fn probe_write(
 // Reads a shade of a book of a spacing, and answers 0, or the cause's number.
 #[no_mangle]
 pub extern "C" fn probe_read(spacing: u32, book: &[u8], number: u16, places: &mut [u16]) -> u32
-    ensures { λ r. ⌜ r ≡ readCode (found spacing (now (book .entry)) number (length (now (places .entry)))) ⌝ }
+    ensures { λ r. ⌜ r ≡ causeCode (found spacing (now (book .entry)) number (length (now (places .entry)))) ⌝ }
     ensures { λ _. ⌜ now (places .exit) ≡ placesAfterRead spacing (now (book .entry)) number (now (places .entry)) ⌝ }
 {
     match book::read(spacing, book, number, places) {
         Found::Read => 0,
         Found::Refused(cause) => causes::number(cause),
+    }
+}
+
+// Pools spots at a spacing, and answers 0, or the cause's number.
+#[no_mangle]
+pub extern "C" fn probe_pool(spacing: u32, count: u32, spots: &[u16], places: &mut [u16]) -> u32
+    ensures { λ r. ⌜ r ≡ causeCode (pooled spacing count (now (spots .entry)) (length (now (places .entry)))) ⌝ }
+    ensures { λ _. ⌜ now (places .exit) ≡ placesAfterPool spacing count (now (spots .entry)) (now (places .entry)) ⌝ }
+{
+    match pool::pool(spacing, count, spots, places) {
+        Pooled::Whole => 0,
+        Pooled::Refused(cause) => causes::number(cause),
     }
 }
 

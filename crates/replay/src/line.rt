@@ -1,11 +1,24 @@
 // A line of the script, as its words come.
+ghost use Prim.Native.Nat.{_+_, _≤_, _<_};
+use crate::command;
 use crate::token::Token;
+use cie::spacing::MOST_ROWS;
+use pool::MOST_SPOTS;
 
-// The tables of a call stand one after the other in a lent pool, each in a stretch of 82 entries: one more than a table may
+// The tables of a call stand one after the other among the lent entries, each in a stretch of 82: one more than a table may
 // have, so that a longer one is seen to be too long.
-pub const STRETCH: usize = 82;
+pub const STRETCH: usize = MOST_ROWS + 1;
 
-const TABLES: usize = 4;
+pub const TABLES: usize = 4;
+
+// The spots of a pooling may take all of the entries: one more than 16 spots of 81 rows have.
+pub const ENTRIES: usize = MOST_ROWS * MOST_SPOTS as usize + 1;
+
+// What a line asks for: a call of the session, or spots pooled.
+pub enum Asked {
+    Call,
+    Pool,
+}
 
 // What may come next.
 pub enum Stage {
@@ -18,10 +31,18 @@ pub enum Stage {
     Unreadable,
 }
 
+// The words of a pooling's record: how many entries it has, the spacing and the number of spots.
+pub const POOL_LENGTH: usize = 2;
+
+pub const POOL_SPACING: usize = 3;
+
+pub const POOL_COUNT: usize = 4;
+
 pub struct Line {
     pub stage: Stage,
+    pub asked: Asked,
     // the record of its call: a light, a spacing, an amount, an inspection table, and where each table starts and how many
-    // entries it has, counted up to STRETCH
+    // entries it has, counted up to its room; or the record of a pooling
     pub record: [u32; 10],
     // the words of the record that its numbers go to: the next, and the one after the last
     next: usize,
@@ -43,10 +64,11 @@ fn capped(n: u64) -> u32 {
 
 impl Line {
     // The line of a call that has so many tables.
-    fn started(kind: u32, stage: Stage, tables: usize) -> Line {
+    pub fn started(kind: u32, stage: Stage, tables: usize) -> Line {
         let second = STRETCH as u32;
         Line {
             stage: stage,
+            asked: Asked::Call,
             record: [kind, 0, 0, second, 0, 2 * second, 0, 3 * second, 0, 0],
             next: 1,
             end: 2,
@@ -60,22 +82,38 @@ impl Line {
         Line::started(calls::REPORT, Stage::Start, 0)
     }
 
-    fn unreadable() -> Line {
+    pub fn unreadable() -> Line {
         Line::started(calls::REPORT, Stage::Unreadable, 0)
     }
 
     // The line of a call whose numbers go to these words of its record.
-    fn with_words(mut self, next: usize, end: usize) -> Line {
+    pub fn with_words(mut self, next: usize, end: usize) -> Line {
         self.next = next;
         self.end = end;
         self
     }
 
+    // The line of a pooling.
+    pub fn pooling() -> Line {
+        Line {
+            stage: Stage::Number,
+            asked: Asked::Pool,
+            record: [0; 10],
+            next: POOL_SPACING,
+            end: POOL_COUNT + 1,
+            whole: 0,
+            tables: 1,
+            left: 0,
+        }
+    }
+
     // The line at another stage.
     fn at_stage(self, stage: Stage) -> Line {
         let record = self.record;
+        let asked = self.asked;
         Line {
             stage: stage,
+            asked: asked,
             record: record,
             next: self.next,
             end: self.end,
@@ -83,41 +121,6 @@ impl Line {
             tables: self.tables,
             left: self.left,
         }
-    }
-
-    fn of_command(token: Token) -> Line {
-        if token.is(b"trial") {
-            return Line::started(calls::TRIAL, Stage::Number, 1).with_words(3, 4);
-        }
-        if token.is(b"preview") {
-            return Line::started(calls::PREVIEW, Stage::Number, 1).with_words(3, 4);
-        }
-        if token.is(b"standard") {
-            return Line::started(calls::STANDARD, Stage::Length, 1);
-        }
-        if token.is(b"tolerance") {
-            return Line::started(calls::REPORT, Stage::Space, 0);
-        }
-        if token.is(b"report") {
-            return Line::started(calls::REPORT, Stage::End, 0);
-        }
-        if token.is(b"light") {
-            return Line::started(calls::OPEN_LIGHT, Stage::Number, 0).with_words(1, 3);
-        }
-        if token.is(b"open") {
-            return Line::started(calls::OPEN_TABLES, Stage::Number, TABLES).with_words(9, 10);
-        }
-        Line::unreadable()
-    }
-
-    fn of_space(token: Token) -> Line {
-        if token.is(b"lab") {
-            return Line::started(calls::TOLERANCE_LAB, Stage::Number, 0);
-        }
-        if token.is(b"luv") {
-            return Line::started(calls::TOLERANCE_LUV, Stage::Number, 0);
-        }
-        Line::unreadable()
     }
 
     // The present table is whole.
@@ -135,24 +138,43 @@ impl Line {
         self.at_stage(Stage::Length)
     }
 
-    // One entry more of the present table is counted and stored, unless it has too many.
-    fn stored(mut self, value: u64, pool: &mut [u32; 328]) -> Line {
-        let table = self.whole;
-        if TABLES <= table {
-            return self;
-        }
-        let length = 2 * table + 2;
+    // One entry more is counted in a word of the record and stored, from a place on, unless there are too many.
+    fn stored(
+        mut self,
+        length: usize,
+        start: usize,
+        room: usize,
+        value: u64,
+        entries: &mut [u32; 1297],
+    ) -> Line
+        requires { ⌜ (length < 10) × (start + room ≤ 1297) ⌝ }
+    {
         let n = self.record[length] as usize;
-        if STRETCH <= n {
+        if room <= n {
             return self;
         }
         self.record[length] = n as u32 + 1;
-        pool[table * STRETCH + n] = capped(value);
+        entries[start + n] = capped(value);
         self
     }
 
-    fn with_entry(self, value: u64, pool: &mut [u32; 328]) -> Line {
-        let mut next = self.stored(value, pool);
+    // One entry more of the present table, or of the spots.
+    fn with_stored(self, value: u64, entries: &mut [u32; 1297]) -> Line {
+        let asked = self.asked;
+        let table = self.whole;
+        match asked {
+            Asked::Pool => self.stored(POOL_LENGTH, 0, ENTRIES, value, entries),
+            Asked::Call => {
+                if TABLES <= table {
+                    return self;
+                }
+                self.stored(2 * table + 2, table * STRETCH, STRETCH, value, entries)
+            }
+        }
+    }
+
+    fn with_entry(self, value: u64, entries: &mut [u32; 1297]) -> Line {
+        let mut next = self.with_stored(value, entries);
         let left = next.left;
         if left <= 1 {
             return next.with_table();
@@ -179,7 +201,7 @@ impl Line {
     }
 
     // The line with one number more, where one may come.
-    fn with_number(mut self, token: Token, pool: &mut [u32; 328]) -> Line {
+    fn with_number(mut self, token: Token, entries: &mut [u32; 1297]) -> Line {
         let stage = self.stage;
         let value = token.value;
         if !token.is_number() {
@@ -194,19 +216,19 @@ impl Line {
                 self.left = value;
                 self.at_stage(Stage::Entry)
             }
-            _ => self.with_entry(value, pool),
+            _ => self.with_entry(value, entries),
         }
     }
 
     // The line with one word more.
-    pub fn with_token(self, token: Token, pool: &mut [u32; 328]) -> Line {
+    pub fn with_token(self, token: Token, entries: &mut [u32; 1297]) -> Line {
         let stage = self.stage;
         match stage {
-            Stage::Start => Line::of_command(token),
-            Stage::Space => Line::of_space(token),
+            Stage::Start => command::of_command(token),
+            Stage::Space => command::of_space(token),
             Stage::End => Line::unreadable(),
             Stage::Unreadable => self,
-            _ => self.with_number(token, pool),
+            _ => self.with_number(token, entries),
         }
     }
 }

@@ -1,10 +1,12 @@
 // Replays a script of calls: one call a line on standard input, and for each what the session answers, a line on standard output.
 ghost use Rattle.session.specs.Served.{Valid};
 use libc::STDIN_FILENO;
+use line::ENTRIES;
 use reader::Reader;
 use session::Session;
 
 mod answer;
+mod command;
 mod line;
 mod print;
 mod reader;
@@ -18,7 +20,7 @@ pub struct Played {
 }
 
 // Plays a piece of the script: each line that ends in it is answered.
-fn play(played: Played, piece: &[u8], pool: &mut [u32; 328]) -> Played
+fn play(played: Played, piece: &[u8], entries: &mut [u32; 1297]) -> Played
     requires { ⌜ Valid (played .session) ⌝ }
     ensures { λ r. ⌜ Valid (r .session) ⌝ }
 {
@@ -29,10 +31,10 @@ fn play(played: Played, piece: &[u8], pool: &mut [u32; 328]) -> Played
         let byte = piece[i];
         i = i + 1;
         if byte != b'\n' {
-            reader = reader.with_byte(byte, pool);
+            reader = reader.with_byte(byte, entries);
             continue;
         }
-        session = answer::answered(session, reader, pool);
+        session = answer::answered(session, reader, entries);
         reader = Reader::new();
     }
     Played {
@@ -44,7 +46,7 @@ fn play(played: Played, piece: &[u8], pool: &mut [u32; 328]) -> Played
 
 // Plays the whole script, a piece at a time. A proved loop has to end, and nothing says that a script does: so the loop counts
 // its turns down, from a number that no run uses up.
-fn play_all(played: Played, pool: &mut [u32; 328]) -> Played
+fn play_all(played: Played, entries: &mut [u32; 1297]) -> Played
     requires { ⌜ Valid (played .session) ⌝ }
     ensures { λ r. ⌜ Valid (r .session) ⌝ }
 {
@@ -54,22 +56,22 @@ fn play_all(played: Played, pool: &mut [u32; 328]) -> Played
         let mut piece = io::large_buffer();
         let got = libc::read(STDIN_FILENO, &mut piece);
         let n = io::count(got, &piece);
-        next = play(next, &piece[..n], pool);
+        next = play(next, &piece[..n], entries);
         turns -= 1;
     }
     next
 }
 
 fn main() {
-    let mut pool = [0u32; 328];
+    let mut entries = [0u32; ENTRIES];
     let fresh = Played {
         session: Session::fresh(),
         reader: Reader::new(),
         more: true,
     };
-    let played = play_all(fresh, &mut pool);
+    let played = play_all(fresh, &mut entries);
     let session = played.session;
     let reader = played.reader;
     // the last line may lack its line feed
-    answer::answered(session, reader, &mut pool);
+    answer::answered(session, reader, &mut entries);
 }

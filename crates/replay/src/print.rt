@@ -1,6 +1,7 @@
 // Answers as lines of text on standard output.
-ghost use Prim.Native.Nat.{_+_, _≤_};
+ghost use Prim.Native.Nat.{_+_, _*_, _≤_};
 ghost use lib.ListN.{length};
+ghost use Rattle.cie.specs.Spacing.{mostRows};
 ghost use Rattle.io.specs.Counts.{Counts};
 use causes::Cause;
 use cie::Chromaticity;
@@ -184,17 +185,51 @@ fn put_answer(out: &mut [u8], answer: Answer) -> usize
     }
 }
 
-// The whole line of an answer.
-fn put_line(out: &mut [u8; 272], answer: Answer) -> usize
+// The line end: how many bytes the line has with it.
+fn put_end(out: &mut [u8], at: usize) -> usize
+    requires { ⌜ at + 1 ≤ length (now out) ⌝ }
     ensures { λ r. ⌜ Counts r (now (out .exit)) ⌝ }
 {
-    let at = put_answer(out, answer);
     text::put(out, at, b"\n")
 }
 
 pub fn print(answer: Answer) {
     let mut out = [0u8; 272];
-    let n = put_line(&mut out, answer);
+    let at = put_answer(&mut out, answer);
+    let n = put_end(&mut out, at);
+    io::write_all(STDOUT_FILENO, &out[..n]);
+}
+
+// Readings, each after a space.
+fn put_fields(out: &mut [u8], at: usize, readings: &[u16]) -> usize
+    requires { ⌜ at + 11 * length (now readings) ≤ length (now out) ⌝ }
+    ensures { λ r. ⌜ r ≤ at + 11 * length (now (readings .entry)) ⌝ }
+{
+    let mut end = at;
+    let mut i = 0;
+    while i < readings.len() {
+        end = put_field(out, end, readings[i] as u32);
+        i += 1;
+    }
+    end
+}
+
+// A spectrum without its line end: how many readings, then each.
+fn put_spectrum(out: &mut [u8], readings: &[u16]) -> usize
+    requires { ⌜ (length (now readings) ≤ mostRows) × (910 ≤ length (now out)) ⌝ }
+    ensures { λ r. ⌜ r ≤ 910 ⌝ }
+{
+    let named = text::put(out, 0, b"spectrum");
+    let counted = put_field(out, named, readings.len() as u32);
+    put_fields(out, counted, readings)
+}
+
+pub fn print_spectrum(readings: &[u16])
+    requires { ⌜ length (now readings) ≤ mostRows ⌝ }
+{
+    let mut out = [0u8; 911];
+    let at = put_spectrum(&mut out, readings);
+    let n = put_end(&mut out, at);
     io::write_all(STDOUT_FILENO, &out[..n]);
 }
 

@@ -19,12 +19,12 @@ impl Reader {
     }
 
     // One byte more of the line, which is no line feed.
-    pub fn with_byte(self, byte: u8, pool: &mut [u32; 328]) -> Reader {
+    pub fn with_byte(self, byte: u8, entries: &mut [u32; 1297]) -> Reader {
         let line = self.line;
         let token = self.token;
         if byte == b' ' {
             return Reader {
-                line: line.with_token(token, pool),
+                line: line.with_token(token, entries),
                 token: Token::new(),
                 begun: true,
             };
@@ -37,12 +37,12 @@ impl Reader {
     }
 
     // The line at its end; an empty one is as it began.
-    pub fn ended(self, pool: &mut [u32; 328]) -> Line {
+    pub fn ended(self, entries: &mut [u32; 1297]) -> Line {
         let line = self.line;
         let token = self.token;
         if !self.begun {
             return line;
         }
-        line.with_token(token, pool)
+        line.with_token(token, entries)
     }
 }

@@ -2,20 +2,20 @@
 use mathlib.Core.Path.{sym, ap, _∙_}
 use borrow.Author.Needs.{needs}
 use Rattle.book.specs.Reading.{readAnswer}
-use Rattle.probe.specs.Probe.{readCode}
+use Rattle.probe.specs.Probe.{causeCode}
 use Rattle.probe.proofs.probe_read.Statement.{statement}
 use Rattle.probe.proofs.probe_read.Tie as tie
 
 returns : tie.Need-returns
 returns c =
     let r = c .before .before .before .before in
-    (ap readCode (ap readAnswer (sym (c .enum-told .given .1)) ∙ r .read .ensures .0), r .read .ensures .1)
+    (ap causeCode (ap readAnswer (sym (c .enum-told .given .1)) ∙ r .read .ensures .0), r .read .ensures .1)
 
 returns-2 : tie.Need-returns-2
 returns-2 c =
     let t = c .before .before in
     let r = t .before .before .before .before in
-    (c .number .ensures ∙ ap readCode (ap readAnswer (sym (t .cause .given .1)) ∙ r .read .ensures .0), r .read .ensures .1)
+    (c .number .ensures ∙ ap causeCode (ap readAnswer (sym (t .cause .given .1)) ∙ r .read .ensures .0), r .read .ensures .1)
 
 pub probe-read-spec : {M : Type 1} → statement M
 probe-read-spec =

@@ -7,10 +7,10 @@ use Rattle.replay.proofs.play.Statement.{statement}
 use Rattle.replay.proofs.play.Tie as tie
 
 abbrev Inv-loop : tie.InvT-loop
-Inv-loop piece pool₀ session₀ reader₀ i₀ pool session reader i = (i ≤ length piece) × Valid session
+Inv-loop piece entries₀ session₀ reader₀ i₀ entries session reader i = (i ≤ length piece) × Valid session
 
 abbrev μ-loop : tie.MeasureT-loop
-μ-loop piece pool₀ session₀ reader₀ i₀ pool session reader i = length piece - i
+μ-loop piece entries₀ session₀ reader₀ i₀ entries session reader i = length piece - i
 
 pub play-spec : {M : Type 1} → statement M
 play-spec =

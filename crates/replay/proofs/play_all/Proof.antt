@@ -5,10 +5,10 @@ use Rattle.replay.proofs.play_all.Statement.{statement}
 use Rattle.replay.proofs.play_all.Tie as tie
 
 abbrev Inv-loop : tie.InvT-loop
-Inv-loop pool₀ next₀ turns₀ pool next turns = Valid (next .session)
+Inv-loop entries₀ next₀ turns₀ entries next turns = Valid (next .session)
 
 abbrev μ-loop : tie.MeasureT-loop
-μ-loop pool₀ next₀ turns₀ pool next turns = turns
+μ-loop entries₀ next₀ turns₀ entries next turns = turns
 
 pub play-all-spec : {M : Type 1} → statement M
 play-all-spec =

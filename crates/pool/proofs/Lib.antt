@@ -1,0 +1,5 @@
+pub mod Readings
+pub mod Spots
+pub mod Outcomes
+pub mod Orders
+pub mod Theorems

@@ -1,0 +1,3 @@
+pub mod Spots
+pub mod Pooling
+pub mod Claims
