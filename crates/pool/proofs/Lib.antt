@@ -1,3 +1,4 @@
+pub mod Examples
 pub mod Readings
 pub mod Spots
 pub mod Outcomes

@@ -17,8 +17,8 @@ use Rattle.cie.specs.Scales.{anyAbove, frameLimit}
 use Rattle.cie.specs.Spacing.{unknownSpacing, rowsAt}
 use Rattle.cie.proofs.Scales.{or-left, or-right}
 use Rattle.cie.proofs.TableRows.{rows-few}
-use Rattle.pool.specs.Spots.{fewestSpots, mostSpots, offCount, spotsOf, pooledSpectrum, WholeSpots}
-use Rattle.pool.specs.Pooling.{poolChecks, pooled, placesAfterPool}
+use Rattle.pool.specs.Spots.{fewestSpots, mostSpots, offCount, pooledSpectrum, WholeSpots}
+use Rattle.pool.specs.Pooling.{poolChecks, pooled, spotsAt, placesAfterPool}
 
 -- the checks, in their order; rows is what the code has of the spacing
 module _ (spacing count : ℕ) (readings : List ℕ) (places : ℕ) where
@@ -58,7 +58,7 @@ module _ (spacing count : ℕ) (readings places : List ℕ) where
   pool-refused c e = (rw e, rw e)
 
   pub pool-accepted : firstOf (poolChecks spacing count readings (length places)) ≡ Clear → {after : List ℕ}
-      → after ≡ pooledSpectrum (rowsAt spacing) (spotsOf (rowsAt spacing) count readings)
+      → after ≡ pooledSpectrum (rowsAt spacing) (spotsAt spacing count readings)
       → (accepted 0 ≡ pooled spacing count readings (length places)) × (after ≡ placesAfterPool spacing count readings places)
   unfolding pooled placesAfterPool unless
   pool-accepted e {after} stored = (rw e, rw e stored)

@@ -18,8 +18,8 @@ use Rattle.causes.proofs.Checks.{first-fires, accepts, numbered-accepted}
 use Rattle.cie.specs.Scales.{anyAbove, frameLimit}
 use Rattle.cie.specs.Spacing.{unknownSpacing, rowsAt}
 use Rattle.pool.specs.Spots.{offCount, spotsOf, atRow, pooledReading, pooledFrom, pooledSpectrum, WholeSpots}
-use Rattle.pool.specs.Pooling.{poolChecks, pooled, placesAfterPool}
-use Rattle.pool.specs.Claims.{spotsAt, AnySpotOrder, PooledAmong, EqualSpots}
+use Rattle.pool.specs.Pooling.{poolChecks, pooled, spotsAt, placesAfterPool}
+use Rattle.pool.specs.Claims.{AnySpotOrder, PooledAmong, EqualSpots}
 use Rattle.pool.proofs.Spots.{length-row, row-some, row-fair, length-pooled, pooled-row}
 use Rattle.pool.proofs.Readings.{pooled-largest, pooled-smallest, pooled-equal}
 use Rattle.pool.proofs.Orders.{spectrum-order, above-order, joined}

@@ -8,11 +8,7 @@ use Rattle.causes.specs.Causes.{accepted}
 use Rattle.cie.specs.Scales.{anyAbove, frameLimit}
 use Rattle.cie.specs.Spacing.{rowsAt}
 use Rattle.pool.specs.Spots.{spotsOf, atRow}
-use Rattle.pool.specs.Pooling.{pooled, placesAfterPool}
-
--- the spots that a slice is read as, at a spacing
-abbrev pub spotsAt : ℕ → ℕ → List ℕ → List (List ℕ)
-spotsAt spacing count readings = spotsOf (rowsAt spacing) count readings
+use Rattle.pool.specs.Pooling.{pooled, spotsAt, placesAfterPool}
 
 -- "the spots one after another in a lent slice": joined, the spots that a slice is read as are the slice; and spots that are joined are read as these
 pub record OneAfterAnother : Type 0 where

@@ -31,8 +31,12 @@ poolChecks spacing count readings places =
 unfoldable pub pooled : ℕ → ℕ → List ℕ → ℕ → Numbered ℕ
 pooled spacing count readings places = numbered (firstOf (poolChecks spacing count readings places)) 0
 
+-- the spots that the readings are, at a spacing
+abbrev pub spotsAt : ℕ → ℕ → List ℕ → List (List ℕ)
+spotsAt spacing count readings = spotsOf (rowsAt spacing) count readings
+
 -- "writes one pooled spectrum"
 unfoldable pub placesAfterPool : ℕ → ℕ → List ℕ → List ℕ → List ℕ
 placesAfterPool spacing count readings places =
     unless (firstOf (poolChecks spacing count readings (length places))) (λ _. places)
-    (pooledSpectrum (rowsAt spacing) (spotsOf (rowsAt spacing) count readings))
+    (pooledSpectrum (rowsAt spacing) (spotsAt spacing count readings))

@@ -8,7 +8,7 @@ use causes::Cause;
 use cie::spectrum::FRAME_LIMIT;
 
 // The fewest spots and the most.
-pub const FEWEST_SPOTS: u32 = 2;
+const FEWEST_SPOTS: u32 = 2;
 
 pub const MOST_SPOTS: u32 = 16;
 
