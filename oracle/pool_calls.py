@@ -31,7 +31,7 @@ def answer(call):
 
 def outcome(call, number):
     """The cause's number, or `done` and the spacing."""
-    return number or f"done at {call.spacing} nm"
+    return str(number or f"done at {call.spacing} nm")
 
 
 def named(call):
@@ -55,14 +55,14 @@ def faulty(chance, faults):
     rows, other_rows = LENGTHS[spacing], LENGTHS[OTHER[spacing]]
     count = chance.pick(NO_COUNTS) if faults & 2 else chance.pick(SPOT_COUNTS)
     told = min(count, 18)
-    readings, lent = spots(chance, spacing, max(told, 1))[:rows * told], places(chance, spacing)
-    if readings:
-        reading = chance.pick(BRIGHT if faults & 16 else AT_THE_FRAME)
-        readings[chance.pick((0, -1, chance.below(len(readings))))] = reading
+    readings, lent = spots(chance, spacing, told), places(chance, spacing)
     if faults & 4:
         lengths = {0, rows, rows * told - 1, rows * told + 1, rows * (told + 1),
                    other_rows * told, rows * told // 2} - {rows * told, -1}
-        readings = (readings * 2 + flat(7))[-chance.pick(sorted(lengths)):]
+        readings = (readings * 2 + flat(7))[:chance.pick(sorted(lengths))]
+    if readings:
+        reading = chance.pick(BRIGHT if faults & 16 else AT_THE_FRAME)
+        readings[chance.pick((0, -1, chance.below(len(readings))))] = reading
     if faults & 8:
         lent = chance.bytes(2 * chance.pick((0, 1, rows - 1, rows + 1, other_rows, 2 * rows)))
     return Pool(chance.pick(UNKNOWN) if faults & 1 else spacing, count, readings, lent)

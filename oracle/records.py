@@ -87,10 +87,10 @@ class Recorder:
         return held._replace(lent=self.chance.bytes(answers_size(held) + WORD_BYTES * spare))
 
 
-def put(slice, entries):
+def put(held, entries):
     """Puts a table into its slice, and says where it starts and how long it is."""
-    slice.extend(entries)
-    return len(slice) - len(entries), len(entries)
+    held.extend(entries)
+    return len(held) - len(entries), len(entries)
 
 
 def recorded(chance, steps):
@@ -120,9 +120,9 @@ def repeated(chance, head, times, tail):
 
 # What a run gives back and leaves
 
-def part(slice, start, count):
+def part(held, start, count):
     """Nothing where it runs past the end."""
-    return slice[start:start + count] if start + count <= len(slice) else []
+    return held[start:start + count] if start + count <= len(held) else []
 
 
 def call(ledger, run, at):

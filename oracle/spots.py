@@ -29,7 +29,7 @@ def spots_pooled(spacing, spots):
 
 def every_remainder(spacing, count, floor=0):
     """Spots whose sums are 0, 1, 2 and so on from row to row, above so many times the floor: some
-    spots have one more than the others, the first of them at first and the last of them after."""
+    spots have one more than the others, the first ones at 5 nm and the last ones at 10 nm."""
     rows = range(LENGTHS[spacing])
     spots = [[floor + row // count + (place < row % count) for row in rows]
              for place in range(count)]
