@@ -93,12 +93,13 @@ pub fires-both : {A : Type 0} (c : Cause) (xs ys : List Check) (f : Cause → A)
 unfolding firstOf unless
 fires-both c xs ys f a a′ = refl
 
--- and two that end alike do so behind any check that both have
+-- and two end alike behind a check that both have, if they do where it does not hold
 pub behind : {A : Type 0} (b : Bool) (c : Cause) (xs ys : List Check) (f : Cause → A) (a a′ : A) →
-    unless (firstOf xs) f a ≡ unless (firstOf ys) f a′ → unless (firstOf (check b c ∷ xs)) f a ≡ unless (firstOf (check b c ∷ ys)) f a′
+    (b ≡ false → unless (firstOf xs) f a ≡ unless (firstOf ys) f a′) →
+    unless (firstOf (check b c ∷ xs)) f a ≡ unless (firstOf (check b c ∷ ys)) f a′
 unfolding firstOf
 behind true c xs ys f a a′ e = unfold unless in refl
-behind false c xs ys f a a′ e = e
+behind false c xs ys f a a′ e = e refl
 
 -- the cause of some checks is that of a longer list, and where they find nothing the rest decides
 pub first-because : (xs ys : List Check) (c : Cause) → firstOf xs ≡ Because c → firstOf (xs ++ ys) ≡ Because c

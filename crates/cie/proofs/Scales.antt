@@ -31,6 +31,11 @@ below limit [] k h = omega arith
 below limit (x ∷ xs) zero h = ltb-false _ _ (or-left (ltb limit x) (anyAbove limit xs) h)
 below limit (x ∷ xs) (suc k) h = below limit xs k (or-right (ltb limit x) (anyAbove limit xs) h)
 
+pub none-above : (limit : ℕ) (xs : List ℕ) → ((k : ℕ) → k < length xs → getD xs k 0 ≤ limit) → anyAbove limit xs ≡ false
+unfolding anyAbove
+none-above limit [] h = refl
+none-above limit (x ∷ xs) h = rw (le-ltb limit x (h 0 (omega arith))) (none-above limit xs (λ k l. h (suc k) (omega (arith, l))))
+
 -- a wider limit has no more above it
 pub above-wider : (a b : ℕ) (xs : List ℕ) → a ≤ b → anyAbove a xs ≡ false → anyAbove b xs ≡ false
 unfolding anyAbove

@@ -1,16 +1,13 @@
 -- Spots in any order: what is added up or sought among them does not go by their order. Assumes nothing.
 use mathlib.Core.Path.{_≡_, refl, sym, ap, _∙_}
 use mathlib.Core.Bool.{Bool, false, _||_, or-assoc, or-comm}
-use mathlib.Core.List.{List, [], _∷_, _++_, foldr, flatten, List·Permᴰ, List·Permᴰ·nil, List·Permᴰ·cons, List·Permᴰ·swap, List·Permᴰ·trans, Permᴰ·map}
-use Prim.Native.Nat.{ℕ, zero, suc, _+_, _*_, _/_, _<_}
-use native.Mathlib.Nat.{mul-zero}
+use mathlib.Core.List.{List, [], _∷_, foldr, flatten, List·Permᴰ, List·Permᴰ·nil, List·Permᴰ·cons, List·Permᴰ·swap, List·Permᴰ·trans, Permᴰ·map}
+use Prim.Native.Nat.{ℕ, zero, suc, _+_, _/_}
 use native.Mathlib.Omega.{arith}
-use lib.ListN.{length, getD, take, drop, length-drop, take-append-drop}
-use lib.Seq.{take-at, drop-at}
+use lib.ListN.{length, getD}
 use Rattle.cie.specs.Scales.{anyAbove}
 use Rattle.cie.proofs.Scales.{above-append}
-use Rattle.pool.specs.Spots.{spotsOf, atRow, sumOf, pooledReading, pooledFrom}
-use Rattle.pool.specs.Claims.{OneAfterAnother}
+use Rattle.pool.specs.Spots.{atRow, sumOf, pooledReading, pooledFrom}
 
 -- a fold in which two neighbours may change places
 module _ {A B : Type 0} (f : A → B → B) (change : (a b : A) (x : B) → f a (f b x) ≡ f b (f a x)) (last : B) where
@@ -54,25 +51,3 @@ module _ (limit : ℕ) where
 
   pub above-order : {ts us : List (List ℕ)} → List·Permᴰ ts us → anyAbove limit (flatten ts) ≡ anyAbove limit (flatten us)
   above-order {ts} {us} d = above-spots ts ∙ fold-order brightIn bright-change false d ∙ sym (above-spots us)
-
--- a slice and its spots
-pub joined : (rows count : ℕ) (readings : List ℕ) → length readings ≡ rows * count → flatten (spotsOf rows count readings) ≡ readings
-unfolding spotsOf flatten
-joined rows zero [] h = refl
-joined rows zero (r ∷ rs) h = let z : _≡_ {A = ℕ} 0 1 = omega (arith, h, mul-zero rows) in cc
-joined rows (suc n) readings h =
-    ap (λ (l : List ℕ). take rows readings ++ l) (joined rows n (drop rows readings) (omega (arith, length-drop rows readings, h)))
-    ∙ take-append-drop rows readings
-
-taken-apart : (rows : ℕ) (spots : List (List ℕ)) → ((i : ℕ) → i < length spots → length (getD spots i []) ≡ rows)
-    → spotsOf rows (length spots) (flatten spots) ≡ spots
-unfolding spotsOf flatten
-taken-apart rows [] each = refl
-taken-apart rows (spot ∷ spots) each =
-    let first = each 0 (omega arith) in
-    let others = ap (spotsOf rows (length spots)) (drop-at spot (flatten spots) rows first)
-    ∙ taken-apart rows spots (λ i h. each (suc i) (omega (arith, h))) in
-    λ i. take-at spot (flatten spots) rows first i ∷ others i
-
-pub one-after-another : OneAfterAnother
-one-after-another = record { joined = joined; taken-apart = taken-apart }

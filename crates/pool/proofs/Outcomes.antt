@@ -64,7 +64,7 @@ module _ (spacing count : ℕ) (readings places : List ℕ) where
   pool-accepted e {after} stored = (rw e, rw e stored)
 
 -- a count that is not off, and what passes all checks
-pub count-some : (count : ℕ) → offCount count ≡ false → 0 < count
+count-some : (count : ℕ) → offCount count ≡ false → 0 < count
 count-some count h = omega (arith, ltb-false count fewestSpots (or-left (ltb count fewestSpots) (ltb mostSpots count) h))
 
 pub count-few : (count : ℕ) → offCount count ≡ false → count ≤ mostSpots
@@ -74,12 +74,11 @@ module _ (spacing count : ℕ) (readings : List ℕ) (places : ℕ) where
   pub passed : firstOf (poolChecks spacing count readings places) ≡ Clear → WholeSpots (rowsAt spacing) count readings
   unfolding poolChecks
   passed e =
-      let several : offCount count ≡ false = clear-at (poolChecks spacing count readings places) e 1 in
-      let long = clear-at (poolChecks spacing count readings places) e 2 in
+      let several = clear-at _ e 1 in
       record {
         some = count-some count several;
         few = count-few count several;
         fit = rows-few spacing;
-        whole = eqb-true (length readings) (rowsAt spacing * count) (not-false _ long);
-        fair = clear-at (poolChecks spacing count readings places) e 4;
+        whole = eqb-true (length readings) (rowsAt spacing * count) (not-false _ (clear-at _ e 2));
+        fair = clear-at _ e 4;
       }

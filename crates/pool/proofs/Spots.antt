@@ -1,17 +1,36 @@
--- The spots of a slice, row by row: at each row their readings stand so many rows apart. Assumes nothing.
-use mathlib.Core.Path.{_≡_, refl, sym, ap, subst, _∙_}
+-- The spots of a slice, as a whole and row by row: at each row their readings stand so many rows apart. Assumes nothing.
+use mathlib.Core.Path.{_≡_, refl, sym, ap, _∙_}
 use mathlib.Core.Bool.{false}
-use mathlib.Core.List.{List, [], _∷_}
+use mathlib.Core.List.{List, [], _∷_, _++_, flatten}
 use Prim.Native.Nat.{ℕ, zero, suc, _+_, _-_, _*_, _/_, _≤_, _<_}
-use native.Mathlib.Nat.{zero-add, add-zero}
+use native.Mathlib.Nat.{zero-add, add-zero, mul-zero}
 use native.Mathlib.Omega.{arith}
 use borrow.Author.Tests.{le-ltb}
-use lib.ListN.{length, getD, take, drop, length-map}
-use lib.Seq.{getD-take, getD-drop, drop-drop}
+use lib.ListN.{length, getD, take, drop, length-map, length-drop, take-append-drop}
+use lib.Seq.{getD-take, getD-drop, drop-drop, take-at, drop-at}
 use Rattle.cie.specs.Scales.{anyAbove, frameLimit}
 use Rattle.cie.proofs.Scales.{below}
 use Rattle.pool.proofs.Readings.{sum-limit, pooled-limit}
 use Rattle.pool.specs.Spots.{mostSpots, spotsOf, atRow, sumOf, pooledReading, pooledFrom, WholeSpots}
+
+-- joined, the spots of a slice are the slice, and spots that are joined are taken apart again
+pub joined : (rows count : ℕ) (readings : List ℕ) → length readings ≡ rows * count → flatten (spotsOf rows count readings) ≡ readings
+unfolding spotsOf flatten
+joined rows zero [] h = refl
+joined rows zero (r ∷ rs) h = let z : _≡_ {A = ℕ} 0 1 = omega (arith, h, mul-zero rows) in cc
+joined rows (suc n) readings h =
+    ap (λ (l : List ℕ). take rows readings ++ l) (joined rows n (drop rows readings) (omega (arith, length-drop rows readings, h)))
+    ∙ take-append-drop rows readings
+
+pub taken-apart : (rows : ℕ) (spots : List (List ℕ)) → ((i : ℕ) → i < length spots → length (getD spots i []) ≡ rows)
+    → spotsOf rows (length spots) (flatten spots) ≡ spots
+unfolding spotsOf flatten
+taken-apart rows [] each = refl
+taken-apart rows (spot ∷ spots) each =
+    let first = each 0 (omega arith) in
+    let others = ap (spotsOf rows (length spots)) (drop-at spot (flatten spots) rows first)
+    ∙ taken-apart rows spots (λ i h. each (suc i) (omega (arith, h))) in
+    λ i. take-at spot (flatten spots) rows first i ∷ others i
 
 -- so many readings, each so many rows after the one before it, from a place on
 unfoldable pub everyFrom : ℕ → ℕ → ℕ → List ℕ → List ℕ
@@ -47,16 +66,6 @@ unfolding anyAbove everyFrom
 every-limit limit rows readings h zero at = refl
 every-limit limit rows readings h (suc n) at =
     rw (le-ltb limit (getD readings at 0) (below limit readings at h)) (every-limit limit rows readings h n (at + rows))
-
-length-every : (rows at n : ℕ) (readings : List ℕ) → length (everyFrom rows at n readings) ≡ n
-unfolding everyFrom
-length-every rows at zero readings = refl
-length-every rows at (suc n) readings = ap suc (length-every rows (at + rows) n readings)
-
-pub sum-every : (limit rows at n : ℕ) (readings : List ℕ) → anyAbove limit readings ≡ false → sumOf (everyFrom rows at n readings) ≤ limit * n
-sum-every limit rows at n readings h =
-    subst (λ (k : ℕ). sumOf (everyFrom rows at n readings) ≤ limit * k) (length-every rows at n readings)
-    (sum-limit limit (everyFrom rows at n readings) (every-limit limit rows readings h n at))
 
 -- one spot, and then the others
 pub sum-more : (rows at n : ℕ) (readings : List ℕ) → 0 < n

@@ -1,28 +1,27 @@
 -- The theorems about pooled spots: their order, their bounds, and spots that are all equal. Assumes nothing.
 use mathlib.Core.Path.{_≡_, refl, sym, ap, _∙_}
-use mathlib.Core.Bool.{Bool, true, false, not, cond}
 use mathlib.Core.List.{List, [], _∷_, List·Permᴰ}
-use Prim.Native.Nat.{ℕ, zero, suc, _+_, _*_, _≤_, _<_}
+use Prim.Native.Nat.{ℕ, zero, suc, _+_, _*_, _<_}
 use native.Mathlib.Nat.{zero-add}
 use native.Mathlib.Omega.{arith}
-use borrow.Author.Tests.{eqb-true, le-ltb}
-use lib.Dec.{eqb}
+use borrow.Author.Tests.{eqb-true, not-false}
 use lib.ListN.{length, getD, drop, replicate, drop-of-length-le}
 use lib.Seq.{drop-cons, length-take-le}
-use Rattle.causes.specs.declared.Checked.{Checked}
-use Rattle.causes.specs.declared.Checked.the-variants.{Clear, Because}
-use Rattle.causes.specs.declared.Cause.the-variants.{ShortTable, OverBright, UnknownSpacing, SpotCount}
-use Rattle.causes.specs.Causes.{accepted}
-use Rattle.causes.specs.Checks.{Check, check, firstOf, unless, numbered}
-use Rattle.causes.proofs.Checks.{first-fires, accepts, numbered-accepted}
+use Rattle.causes.specs.declared.Cause.{Cause}
+use Rattle.causes.specs.declared.Checked.the-variants.{Clear}
+use Rattle.causes.specs.declared.Cause.the-variants.{OverBright}
+use Rattle.causes.specs.Causes.{accepted, refusal}
+use Rattle.causes.specs.Checks.{check, firstOf, unless}
+use Rattle.causes.proofs.Checks.{behind, accepts, numbered-accepted}
 use Rattle.cie.specs.Scales.{anyAbove, frameLimit}
-use Rattle.cie.specs.Spacing.{unknownSpacing, rowsAt}
-use Rattle.pool.specs.Spots.{offCount, spotsOf, atRow, pooledReading, pooledFrom, pooledSpectrum, WholeSpots}
+use Rattle.cie.specs.Spacing.{rowsAt}
+use Rattle.cie.proofs.Scales.{none-above}
+use Rattle.pool.specs.Spots.{spotsOf, atRow, pooledReading, pooledFrom, pooledSpectrum, WholeSpots}
 use Rattle.pool.specs.Pooling.{poolChecks, pooled, spotsAt, placesAfterPool}
-use Rattle.pool.specs.Claims.{AnySpotOrder, PooledAmong, EqualSpots}
-use Rattle.pool.proofs.Spots.{length-row, row-some, row-fair, length-pooled, pooled-row}
+use Rattle.pool.specs.Claims.{OneAfterAnother, AnySpotOrder, PooledAmong, EqualSpots}
+use Rattle.pool.proofs.Spots.{joined, taken-apart, length-row, row-some, row-fair, length-pooled, pooled-row}
 use Rattle.pool.proofs.Readings.{pooled-largest, pooled-smallest, pooled-equal}
-use Rattle.pool.proofs.Orders.{spectrum-order, above-order, joined}
+use Rattle.pool.proofs.Orders.{spectrum-order, above-order}
 use Rattle.pool.proofs.Outcomes.{passed}
 
 -- two slices of one length whose spots are the same, in any order
@@ -34,49 +33,27 @@ module _ (spacing count : ℕ) (readings others : List ℕ) (n : length readings
       ∙ above-order frameLimit d
       ∙ ap (anyAbove frameLimit) (joined (rowsAt spacing) count others (sym n ∙ h))
 
-  -- what is checked after the length
-  abbrev after-length : ℕ → List ℕ → List Check
-  after-length places rs = check (not (eqb places (rowsAt spacing))) ShortTable ∷ check (anyAbove frameLimit rs) OverBright ∷ []
-
-  -- where the length is wrong, that decides before the limit does
-  same-found : (places : ℕ) (t : Bool) → eqb (length readings) (rowsAt spacing * count) ≡ t
-      → firstOf (poolChecks spacing count readings places) ≡ firstOf (poolChecks spacing count others places)
-  unfolding poolChecks firstOf
-  same-found places true e =
-      let bright = same-bright (eqb-true (length readings) (rowsAt spacing * count) e) in
-      λ i.
-      firstOf
-      (check (unknownSpacing spacing) UnknownSpacing
-      ∷ check (offCount count) SpotCount
-      ∷ check (not (eqb (n i) (rowsAt spacing * count))) ShortTable
-      ∷ check (not (eqb places (rowsAt spacing))) ShortTable
-      ∷ check (bright i) OverBright
-      ∷ [])
-  same-found places false e =
-      let long = rowsAt spacing * count in
-      let short : eqb (length others) long ≡ false = ap (λ (m : ℕ). eqb m long) (sym n) ∙ e in
-      ap (λ (t : Checked). cond (unknownSpacing spacing) (Because UnknownSpacing) (cond (offCount count) (Because SpotCount) t))
-      (first-fires (not (eqb (length readings) long)) ShortTable (after-length places readings) (ap not e)
-      ∙ sym (first-fires (not (eqb (length others) long)) ShortTable (after-length places others) (ap not short)))
-
   same-spectrum : pooledSpectrum (rowsAt spacing) (spotsAt spacing count readings) ≡ pooledSpectrum (rowsAt spacing) (spotsAt spacing count others)
   same-spectrum =
       spectrum-order
       (λ row. length-row (rowsAt spacing) count row readings ∙ sym (length-row (rowsAt spacing) count row others)) d 0 (rowsAt spacing)
 
+  -- a length that is wrong decides before the limit does
+  alike : {A : Type 0} (places : ℕ) (f : Cause → A) {a b : A} → a ≡ b
+      → unless (firstOf (poolChecks spacing count readings places)) f a ≡ unless (firstOf (poolChecks spacing count others places)) f b
+  unfolding poolChecks
+  alike places f e =
+      rw (← n)
+      (behind _ _ _ _ f _ _ (λ _. behind _ _ _ _ f _ _ (λ _. behind _ _ _ _ f _ _ (λ h. behind _ _ _ _ f _ _ (λ _.
+      let long = eqb-true (length readings) (rowsAt spacing * count) (not-false _ h) in
+      λ i. unless (firstOf (check (same-bright long i) OverBright ∷ [])) f (e i))))))
+
 pub any-spot-order : AnySpotOrder
 unfolding pooled placesAfterPool
-any-spot-order spacing count readings others places n d =
-    let found = same-found spacing count readings others n d (length places) (eqb (length readings) (rowsAt spacing * count)) refl in
-    (ap (λ (t : Checked). numbered t 0) found, λ i. unless (found i) (λ _. places) (same-spectrum spacing count readings others n d i))
-
--- where each row's reading obeys a limit, the spectrum does
-limit-from : (limit : ℕ) (spots : List (List ℕ)) (rows : ℕ) → ((row : ℕ) → row < rows → pooledReading (atRow spots row) ≤ limit)
-    → (row n : ℕ) → row + n ≤ rows → anyAbove limit (pooledFrom spots row n) ≡ false
-unfolding anyAbove pooledFrom
-limit-from limit spots rows each row zero h = refl
-limit-from limit spots rows each row (suc n) h =
-    rw (le-ltb limit (pooledReading (atRow spots row)) (each row (omega arith))) (limit-from limit spots rows each (suc row) n (omega arith))
+any-spot-order spacing count readings others places n d = (
+  alike spacing count readings others n d (length places) refusal refl,
+  alike spacing count readings others n d (length places) (λ _. places) (same-spectrum spacing count readings others n d),
+)
 
 -- what an accepted pooling has shown, and what it leaves
 module _ (spacing count : ℕ) (readings places : List ℕ) (e : pooled spacing count readings (length places) ≡ accepted 0) where
@@ -99,9 +76,11 @@ pooled-among spacing count readings places e =
     let l = left spacing count readings places e in
     let each : (row : ℕ) → row < rows → getD (placesAfterPool spacing count readings places) row 0 ≡ pooledReading (atRow spots row) =
     λ row h. ap (λ (k : List ℕ). getD k row 0) l ∙ pooled-row spots rows row h in
+    let whole : length (placesAfterPool spacing count readings places) ≡ rows = ap length l ∙ length-pooled spots 0 rows in
     record {
-      whole = ap length l ∙ length-pooled spots 0 rows;
-      limit = ap (anyAbove frameLimit) l ∙ limit-from frameLimit spots rows (λ row h. row-fair s row h) 0 rows (omega arith);
+      whole = whole;
+      limit = none-above frameLimit (placesAfterPool spacing count readings places) (λ row h.
+          let k : row < rows = omega (arith, h, whole) in omega (arith, each row k, row-fair s row k));
       smallest = λ row h. omega (arith, each row h, pooled-smallest (atRow spots row) (row-some s row));
       largest = λ row h. omega (arith, each row h, pooled-largest (atRow spots row) (row-some s row));
     }
@@ -135,3 +114,6 @@ equal-spots spacing count readings spot places e equal =
     ∙ ap (λ (spots : List (List ℕ)). pooledSpectrum (rowsAt spacing) spots) equal
     ∙ equal-from count spot (s .some) 0 (rowsAt spacing)
     (zero-add (rowsAt spacing) ∙ sym (first-length (rowsAt spacing) count readings spot s equal))
+
+pub one-after-another : OneAfterAnother
+one-after-another = record { joined = joined; taken-apart = taken-apart }

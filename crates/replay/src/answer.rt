@@ -1,4 +1,4 @@
-// A line's call made, and its answer printed.
+// A line's call made, or its spots pooled, and the answer printed.
 ghost use Prim.Native.Nat.{_≤_};
 ghost use lib.ListN.{length};
 ghost use Rattle.cie.specs.Spacing.{mostRows};

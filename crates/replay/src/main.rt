@@ -1,4 +1,4 @@
-// Replays a script of calls: one call a line on standard input, and for each what the session answers, a line on standard output.
+// Replays a script: one call or one pooling a line on standard input, and for each its answer, a line on standard output.
 ghost use Rattle.session.specs.Served.{Valid};
 use libc::STDIN_FILENO;
 use line::ENTRIES;

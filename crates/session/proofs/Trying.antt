@@ -58,9 +58,10 @@ trying : (table : ℕ) (full : Bool) (readings : List ℕ) (t : Held Tables) (s 
     refusal
     (judgedAs colour (judgedOf (heldStandard t s) (heldTolerance o) colour))
     ≡ unless (firstOf (trialChecks table (isHeld t) (isHeld s) (isHeld o) full (rowsInForce t) readings)) refusal (workedOut t s o readings)
-trying table full readings none s o = behind _ _ _ _ _ _ _ (fires-both _ _ _ _ _ _)
-trying table full readings (held t) none o = behind _ _ _ _ _ _ _ (behind _ _ _ _ _ _ _ (fires-both _ _ _ _ _ _))
-trying table full readings (held t) (held s) none = behind _ _ _ _ _ _ _ (behind _ _ _ _ _ _ _ (behind _ _ _ _ _ _ _ (fires-both _ _ _ _ _ _)))
+trying table full readings none s o = behind _ _ _ _ _ _ _ (λ _. fires-both _ _ _ _ _ _)
+trying table full readings (held t) none o = behind _ _ _ _ _ _ _ (λ _. behind _ _ _ _ _ _ _ (λ _. fires-both _ _ _ _ _ _))
+trying table full readings (held t) (held s) none =
+    behind _ _ _ _ _ _ _ (λ _. behind _ _ _ _ _ _ _ (λ _. behind _ _ _ _ _ _ _ (λ _. fires-both _ _ _ _ _ _)))
 trying table full readings (held t) (held s) (held a) =
     let judge : Colour → Numbered TrialOutcome = λ q. judgedAs q (judgedBy (toleranceOf (a .space) (a .units)) (colourAt t s) q) in
     let found : Bool → Checked = λ b. firstOf (trialChecks table true true b full (rowsAt (t .spacing)) readings) in

@@ -25,8 +25,8 @@ abbrev counted : tie.Else4 → tie.Else2
 counted t = t .before .before .before
 
 -- what each test has shown
-known : (t : tie.Else2) → unknownSpacing (start t .args .spacing) ≡ false
-known t = let e = t .before .before in sym (e .before .is-unknown .ensures) ∙ e .if1 .left
+known : (t : tie.Else1) → unknownSpacing (t .before .before .before .before .args .spacing) ≡ false
+known t = sym (t .before .is-unknown .ensures) ∙ t .if1 .left
 
 several : (t : tie.Else2) → offCount (start t .args .count) ≡ false
 several t = sym (t .before .is-off .ensures) ∙ t .if2 .left
@@ -44,17 +44,14 @@ clear t =
     let t₄ = t .before .before in
     let r = t₄ .before .before in
     let c = counted t₄ in
-    pools _ _ _ _ (known c) (several c) (r .rows-at .ensures .0) (t₄ .before .if3 .left) (filled t₄)
+    pools _ _ _ _ (known (c .before .before)) (several c) (r .rows-at .ensures .0) (t₄ .before .if3 .left) (filled t₄)
     (sym (t .before .over-bright .ensures) ∙ t .if5 .left)
 
 returns : tie.Need-returns
 returns c = pool-refused _ _ _ _ UnknownSpacing (unknown-spacing _ _ _ _ (sym (c .before .is-unknown .ensures) ∙ c .if1 .taken))
 
 returns-2 : tie.Need-returns-2
-returns-2 c =
-    let e = c .before .before in
-    let far = sym (e .before .is-unknown .ensures) ∙ e .if1 .left in
-    pool-refused _ _ _ _ SpotCount (spot-count _ _ _ _ far (sym (c .before .is-off .ensures) ∙ c .if2 .taken))
+returns-2 c = pool-refused _ _ _ _ SpotCount (spot-count _ _ _ _ (known (c .before .before)) (sym (c .before .is-off .ensures) ∙ c .if2 .taken))
 
 mul-if3 : tie.Need-mul-if3
 mul-if3 c =
@@ -64,14 +61,14 @@ mul-if3 c =
 returns-3 : tie.Need-returns-3
 returns-3 c =
     let t = c .before .before in
-    pool-refused _ _ _ _ ShortTable (short-spots _ _ _ _ (known t) (several t) (c .before .rows-at .ensures .0) (c .if3 .taken))
+    pool-refused _ _ _ _ ShortTable (short-spots _ _ _ _ (known (t .before .before)) (several t) (c .before .rows-at .ensures .0) (c .if3 .taken))
 
 returns-4 : tie.Need-returns-4
 returns-4 c =
     let r = c .before .before in
     let t = r .before in
     pool-refused _ _ _ _ ShortTable
-    (short-places _ _ _ _ (known t) (several t) (r .rows-at .ensures .0) (c .before .if3 .left) (c .if4 .taken))
+    (short-places _ _ _ _ (known (t .before .before)) (several t) (r .rows-at .ensures .0) (c .before .if3 .left) (c .if4 .taken))
 
 returns-5 : tie.Need-returns-5
 returns-5 c =
@@ -80,7 +77,7 @@ returns-5 c =
     let t = counted t₄ in
     let bright = sym (c .before .over-bright .ensures) ∙ c .if5 .taken in
     pool-refused _ _ _ _ OverBright
-    (over-bright _ _ _ _ (known t) (several t) (r .rows-at .ensures .0) (t₄ .before .if3 .left) (filled t₄) bright)
+    (over-bright _ _ _ _ (known (t .before .before)) (several t) (r .rows-at .ensures .0) (t₄ .before .if3 .left) (filled t₄) bright)
 
 pool-rows-requires : tie.Need-pool-rows-requires
 pool-rows-requires c κs =

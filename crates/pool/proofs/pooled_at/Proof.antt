@@ -1,5 +1,4 @@
 -- `pool::pooled_at` meets its contract: the rule's arithmetic on the row's sum, whose quotient obeys the limit and so fits. Assumes nothing.
-
 use native.Mathlib.Omega.{arith}
 use borrow.Author.Needs.{needs}
 use Rattle.pool.proofs.Spots.{row-pooled, row-sum, row-fair}
