@@ -1,6 +1,6 @@
 -- What a read answers and leaves, by the tests that led there: the first check that holds decides both. Assumes nothing.
 use mathlib.Core.Path.{_≡_, sym, ap, _∙_}
-use mathlib.Core.Bool.{true, false}
+use mathlib.Core.Bool.{true, false, not}
 use Prim.Native.Nat.{ℕ, _≤_, _<_}
 use native.Mathlib.Omega.{arith}
 use mathlib.Core.List.{List}
@@ -11,36 +11,45 @@ use Rattle.causes.specs.declared.Cause.the-variants.{ShortTable, NotABook, NoSu
 use Rattle.causes.specs.declared.Checked.the-variants.{Clear, Because}
 use Rattle.causes.specs.Causes.{causeNumber, accepted, refused}
 use Rattle.causes.specs.Checks.{firstOf, unless}
+use Rattle.causes.proofs.Checks.{first-fires, first-passes}
 use Rattle.cie.specs.Spacing.{unknownSpacing, rowsAt}
 use Rattle.book.specs.Book.{numbersOf, countOf, readingsOf, isBook, indexOf, spectrumOf, shadeOf}
-use Rattle.book.specs.Reading.{readChecks, found, placesAfterRead}
+use Rattle.book.specs.Reading.{shadeChecks, readChecks, found, placesAfterRead}
 use Rattle.book.proofs.Tests.{in-list, not-in-list}
 use Rattle.book.proofs.Rules.{length-numbersOf}
+
+-- the checks of a shade, in their order; i is the place that the code has found, n the count that it has read
+module _ (rows : ℕ) (s : List ℕ) (k : ℕ) where
+  pub no-book : isBook rows s ≡ false → firstOf (shadeChecks rows s k) ≡ Because NotABook
+  unfolding firstOf shadeChecks
+  no-book h = rw h
+
+  module _ (book : isBook rows s ≡ true) {i n : ℕ} (p : i ≡ indexOf k (numbersOf s)) (q : n ≡ countOf s) where
+    pub no-shade : n ≤ i → firstOf (shadeChecks rows s k) ≡ Because NoSuchShade
+    unfolding firstOf shadeChecks
+    no-shade h = rw (book, not-in-list k (numbersOf s) (omega (arith, length-numbersOf s)))
+
+    pub has-shade : i < n → firstOf (shadeChecks rows s k) ≡ Clear
+    unfolding firstOf shadeChecks
+    has-shade h = rw (book, in-list k (numbersOf s) (omega (arith, length-numbersOf s)))
 
 -- the reader's checks, in its order; rows is what the code has of the spacing
 module _ (spacing : ℕ) (s : List ℕ) (k places : ℕ) where
   pub unknown-spacing : unknownSpacing spacing ≡ true → firstOf (readChecks spacing s k places) ≡ Because UnknownSpacing
-  unfolding firstOf readChecks
-  unknown-spacing h = rw h
+  unfolding readChecks
+  unknown-spacing h = first-fires _ _ _ h
 
   module _ (known : unknownSpacing spacing ≡ false) {rows : ℕ} (at : rows ≡ rowsAt spacing) where
     pub short-places : (places ≡ rows → ⊥) → firstOf (readChecks spacing s k places) ≡ Because ShortTable
-    unfolding firstOf readChecks
-    short-places h = rw (known, ne-eqb places (rowsAt spacing) (λ e. h (e ∙ sym at)))
+    unfolding readChecks
+    short-places h = first-passes _ _ _ known ∙ first-fires _ _ _ (ap not (ne-eqb places (rowsAt spacing) (λ e. h (e ∙ sym at))))
 
-    module _ (room : places ≡ rows) where
-      pub not-a-book : isBook rows s ≡ false → firstOf (readChecks spacing s k places) ≡ Because NotABook
-      unfolding firstOf readChecks
-      not-a-book h = rw (known, ← at, eq-eqb places rows room, h)
-
-      module _ (book : isBook rows s ≡ true) {i n : ℕ} (p : i ≡ indexOf k (numbersOf s)) (q : n ≡ countOf s) where
-        pub no-such-shade : n ≤ i → firstOf (readChecks spacing s k places) ≡ Because NoSuchShade
-        unfolding firstOf readChecks
-        no-such-shade h = rw (known, ← at, eq-eqb places rows room, book, not-in-list k (numbersOf s) (omega (arith, length-numbersOf s)))
-
-        pub reads : i < n → firstOf (readChecks spacing s k places) ≡ Clear
-        unfolding firstOf readChecks
-        reads h = rw (known, ← at, eq-eqb places rows room, book, in-list k (numbersOf s) (omega (arith, length-numbersOf s)))
+    -- behind them come those of the shade
+    pub right-places : places ≡ rows → firstOf (readChecks spacing s k places) ≡ firstOf (shadeChecks rows s k)
+    unfolding readChecks
+    right-places room =
+        first-passes _ _ _ known ∙ first-passes _ _ _ (ap not (eq-eqb places (rowsAt spacing) (room ∙ at)))
+        ∙ ap (λ (x : ℕ). firstOf (shadeChecks x s k)) (sym at)
 
 -- a read that is refused, and one that is accepted
 module _ (spacing : ℕ) (s : List ℕ) (k : ℕ) (d : List ℕ) where

@@ -1,6 +1,6 @@
 -- The loops that test: what is left, tested from here, decides as the whole does, since what is passed has passed. Assumes nothing.
 use mathlib.Core.Path.{_≡_, refl, sym, ap, _∙_}
-use mathlib.Core.Bool.{Bool, true, false, _&&_, _||_, not, cond}
+use mathlib.Core.Bool.{Bool, true, false, _&&_, _||_, not, cond, true≢false}
 use Prim.Native.Nat.{ℕ, suc, _+_, _*_, _≤_, _<_}
 use native.Mathlib.Omega.{arith}
 use native.Mathlib.Nat.{mul-zero}
@@ -8,8 +8,8 @@ use native.Mathlib.Numerals.{add-one}
 use mathlib.Core.List.{List, [], _∷_, _++_}
 use lib.ListN.{length, getD, take, drop, length-append, drop-of-length-le}
 use lib.Seq.{drop-cons, take-at}
-use lib.Dec.{eqb}
-use borrow.Author.Tests.{lt-ltb, le-ltb, eq-eqb, ne-eqb, not-true, not-false}
+use lib.Dec.{ltb, eqb}
+use borrow.Author.Tests.{ltb-true, ltb-false, lt-ltb, le-ltb, eq-eqb, ne-eqb, eqb-true, not-true, not-false}
 use Rattle.cie.specs.Scales.{anyAbove}
 use Rattle.cie.proofs.Scales.{above-append}
 use Rattle.endian.specs.Bytes.{at16, at32, words}
@@ -140,3 +140,21 @@ not-in-list k (x ∷ xs) h = go (not-in-list k xs) (eqb x k) h
     go : (length xs ≤ indexOf k xs → isIn k xs ≡ false) → (t : Bool) → suc (length xs) ≤ cond t 0 (suc (indexOf k xs)) → (t || isIn k xs) ≡ false
     go next true g = absurd (omega arith)
     go next false g = next (omega arith)
+
+pub in-place : (k : ℕ) (xs : List ℕ) → isIn k xs ≡ true → indexOf k xs < length xs
+in-place k xs h = go (ltb (indexOf k xs) (length xs)) refl
+  where
+    go : (t : Bool) → ltb (indexOf k xs) (length xs) ≡ t → indexOf k xs < length xs
+    go true e = ltb-true (indexOf k xs) (length xs) e
+    go false e = absurd (true≢false (sym h ∙ not-in-list k xs (ltb-false (indexOf k xs) (length xs) e)))
+
+-- and what stands there is the number
+pub at-place : (k : ℕ) (xs : List ℕ) → indexOf k xs < length xs → getD xs (indexOf k xs) 0 ≡ k
+unfolding indexOf
+at-place k [] h = absurd (omega arith)
+at-place k (x ∷ xs) h = go (at-place k xs) (eqb x k) refl h
+  where
+    go : (indexOf k xs < length xs → getD xs (indexOf k xs) 0 ≡ k) → (t : Bool) → eqb x k ≡ t → cond t 0 (suc (indexOf k xs)) < suc (length xs)
+        → getD (x ∷ xs) (cond t 0 (suc (indexOf k xs))) 0 ≡ k
+    go next true e g = eqb-true x k e
+    go next false e g = next (omega arith)

@@ -17,14 +17,19 @@ abbrev pub readAnswer : Found → Numbered ℕ
 readAnswer Read = accepted 0
 readAnswer (Refused cause) = refusal cause
 
+-- 11 and 12, for a shade of a book with so many rows to a body
+unfoldable pub shadeChecks : ℕ → List ℕ → ℕ → List Check
+shadeChecks rows book number =
+    check (not (isBook rows book)) NotABook
+    ∷ check (not (isIn number (numbersOf book))) NoSuchShade
+    ∷ []
+
 -- "Read one shade into 81 places: 1, 11, 12.", or into 41; before them 17, "checked first in every call that names one"
 unfoldable pub readChecks : ℕ → List ℕ → ℕ → ℕ → List Check
 readChecks spacing book number places =
     check (unknownSpacing spacing) UnknownSpacing
     ∷ check (not (eqb places (rowsAt spacing))) ShortTable
-    ∷ check (not (isBook (rowsAt spacing) book)) NotABook
-    ∷ check (not (isIn number (numbersOf book))) NoSuchShade
-    ∷ []
+    ∷ shadeChecks (rowsAt spacing) book number
 
 unfoldable pub found : ℕ → List ℕ → ℕ → ℕ → Numbered ℕ
 found spacing book number places = numbered (firstOf (readChecks spacing book number places)) 0

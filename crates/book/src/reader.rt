@@ -156,7 +156,7 @@ pub fn spectrum_at(s: &[u8], i: usize, places: &mut [u16])
 }
 
 // The place of a number among a book's shades, from 0; their count where it is not among them.
-pub(crate) fn find(s: &[u8], number: u16) -> usize
+pub fn find(s: &[u8], number: u16) -> usize
     requires { ⌜ Contents (now s) ⌝ }
     ensures { λ r. ⌜ r ≡ indexOf number (numbersOf (now (s .entry))) ⌝ }
 {

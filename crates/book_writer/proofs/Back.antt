@@ -73,30 +73,30 @@ module _ (rows k o : ℕ) (r : List ℕ) (hk : k < 65536) where
 
 -- the entries read back
 module _ (rows : ℕ) (fits : bodyLength rows < 65536) (q : List ℕ) where
-  numbers-back : (ns : List ℕ) (o : ℕ) → AllBelow 65536 ns → words (contentsOf rows o ns ++ q) 0 entryLength (length ns) ≡ ns
+  pub numbers-read : (ns : List ℕ) (o : ℕ) → AllBelow 65536 ns → words (contentsOf rows o ns ++ q) 0 entryLength (length ns) ≡ ns
   unfolding contentsOf words
-  numbers-back [] o b = refl
-  numbers-back (k ∷ ns) o b =
+  numbers-read [] o b = refl
+  numbers-read (k ∷ ns) o b =
       let r : List ℕ = contentsOf rows (o + bodyLength rows) ns ++ q in
       rw (
         append-assoc (entryOf rows k o) (contentsOf rows (o + bodyLength rows) ns) q,
         entry-number rows k o r (b 0),
         words-next rows k o r (b 0) (length ns),
-        numbers-back ns (o + bodyLength rows) (tail-below ns b),
+        numbers-read ns (o + bodyLength rows) (tail-below ns b),
       )
 
-  entries-back : (ns : List ℕ) (before o : ℕ) → AllBelow 65536 ns → o + bodyLength rows * length ns < 2 ^ 32
+  entries-read : (ns : List ℕ) (before o : ℕ) → AllBelow 65536 ns → o + bodyLength rows * length ns < 2 ^ 32
       → entriesOk rows (contentsOf rows o ns ++ q) 0 before o (length ns) ≡ rising before ns
   unfolding contentsOf entriesOk rising
-  entries-back [] before o b h = refl
-  entries-back (k ∷ ns) before o b h =
+  entries-read [] before o b h = refl
+  entries-read (k ∷ ns) before o b h =
       let r : List ℕ = contentsOf rows (o + bodyLength rows) ns ++ q in
       rw (
         append-assoc (entryOf rows k o) (contentsOf rows (o + bodyLength rows) ns) q,
         entry-ok rows k o r (b 0) before fits (omega arith),
         entry-number rows k o r (b 0),
         entries-next rows k o r (b 0) (length ns) k (o + bodyLength rows),
-        entries-back ns k (o + bodyLength rows) (tail-below ns b) (omega arith),
+        entries-read ns k (o + bodyLength rows) (tail-below ns b) (omega arith),
       )
 
 words-after : (f c xs : List ℕ) (at : ℕ) → at ≡ length (f ++ c) → AllBelow 65536 xs → words (f ++ (c ++ bytesOf xs)) at 2 (length xs) ≡ xs
@@ -125,7 +125,7 @@ module _ (rows : ℕ) (ns rs : List ℕ) (few : length ns ≤ mostShades) where
   unfolding numbersOf bookOf littleEndian front contents
   numbers-of b fits =
       ap (words (bookOf rows ns rs) headLength entryLength) count-back
-      ∙ words-behind front (contents ++ bytesOf rs) (length ns) 0 entryLength ∙ numbers-back rows fits (bytesOf rs) ns (bodiesAt (length ns)) b
+      ∙ words-behind front (contents ++ bytesOf rs) (length ns) 0 entryLength ∙ numbers-read rows fits (bytesOf rs) ns (bodiesAt (length ns)) b
 
   pub readings-of : AllBelow 65536 rs → length rs ≡ rows * length ns → readingsOf rows (bookOf rows ns rs) ≡ rs
   unfolding readingsIn bookOf littleEndian front contents
@@ -141,7 +141,7 @@ module _ (rows : ℕ) (ns rs : List ℕ) (few : length ns ≤ mostShades) where
   entries-of b fits =
       let far : bodyLength rows * length ns ≤ 65536 * mostShades = mul-le-mul {n₂ = 65536} {m₂ = mostShades} (omega arith) few in
       entries-behind rows front (contents ++ bytesOf rs) (length ns) 0 0 (bodiesAt (length ns))
-      ∙ entries-back rows fits (bytesOf rs) ns 0 (bodiesAt (length ns)) b (omega arith)
+      ∙ entries-read rows fits (bytesOf rs) ns 0 (bodiesAt (length ns)) b (omega arith)
 
   begins : startsWith magic (bookOf rows ns rs) ≡ true
   unfolding startsWith bookOf
@@ -157,7 +157,7 @@ module _ (rows : ℕ) (ns rs : List ℕ) (few : length ns ≤ mostShades) where
       ∙ ap (λ (l : List ℕ). not (anyAbove readerLimit l)) same ∙ ap not fair
 
 -- numbers that rise are each found at their own place
-rising-above : (before : ℕ) (xs : List ℕ) (i : ℕ) → rising before xs ≡ true → i < length xs → before < getD xs i 0
+pub rising-above : (before : ℕ) (xs : List ℕ) (i : ℕ) → rising before xs ≡ true → i < length xs → before < getD xs i 0
 unfolding rising
 rising-above before [] i h k = absurd (omega arith)
 rising-above before (x ∷ xs) zero h k = ltb-true before x (and-left (ltb before x) (rising x xs) h)

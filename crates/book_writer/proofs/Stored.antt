@@ -12,7 +12,7 @@ use Rattle.endian.proofs.Parts.{length-littleEndian}
 use Rattle.endian.proofs.Words.{length-bytesOf, bytesOf-split}
 use Rattle.book.specs.Book.{magic, countPlace, headLength, entryLength, bodyLength, bodiesAt, entryOf, contentsOf, bookOf}
 
-length-entryOf : (rows k o : ℕ) → length (entryOf rows k o) ≡ entryLength
+pub length-entryOf : (rows k o : ℕ) → length (entryOf rows k o) ≡ entryLength
 unfolding entryOf littleEndian
 length-entryOf rows k o = refl
 

@@ -1,4 +1,5 @@
 // The shade book's writer: `write` makes a book of shades.
+pub mod entry;
 mod parts;
 
 use book::layout;

@@ -1,17 +1,18 @@
 // The writer's parts: what it checks of the shades, and the stores that make a book.
+use super::entry;
 use book::layout;
 use book::layout::COUNT;
 use book::layout::ENTRY;
 use book::layout::HEAD;
 use book::layout::MAGIC;
 ghost use mathlib.Core.Path.{_≡_};
-ghost use Prim.Native.Nat.{_+_, _*_, _≤_, _<_};
+ghost use Prim.Native.Nat.{_*_, _≤_, _<_};
 ghost use lib.Dec.{eqb};
 ghost use lib.ListN.{length};
 ghost use lib.Seq.{sets};
 ghost use Rattle.cie.specs.Spacing.{mostRows};
 ghost use Rattle.endian.specs.Bytes.{bytesOf};
-ghost use Rattle.book.specs.Book.{magic, entryLength, headLength, mostShades, bodiesAt, total, rising, entryOf, contentsOf, bookOf};
+ghost use Rattle.book.specs.Book.{magic, headLength, mostShades, bodiesAt, total, rising, contentsOf, bookOf};
 
 // Whether there are so many rows for each of n shades. (rows * n could wrap.)
 pub fn fills(spectra: &[u16], rows: usize, n: usize) -> bool
@@ -51,16 +52,6 @@ fn put_magic(buffer: &mut [u8])
     buffer[3] = MAGIC[3];
 }
 
-// One entry: the shade's number, and the length and the offset of its body.
-fn put_entry(buffer: &mut [u8], rows: usize, at: usize, number: u16, offset: u32)
-    requires { ⌜ (rows ≤ mostRows) × (at + entryLength ≤ length (now buffer)) ⌝ }
-    ensures { λ _. ⌜ now (buffer .exit) ≡ sets (now (buffer .entry)) at (entryOf rows number offset) ⌝ }
-{
-    endian::write16(buffer, at, number);
-    endian::write16(buffer, at + 2, layout::body_length(rows) as u16);
-    endian::write32(buffer, at + 4, offset);
-}
-
 // The entries.
 fn put_contents(buffer: &mut [u8], rows: usize, numbers: &[u16])
     requires { ⌜ (rows ≤ mostRows) × (length (now numbers) ≤ mostShades) × (total rows (length (now numbers)) ≤ length (now buffer)) ⌝ }
@@ -71,7 +62,7 @@ fn put_contents(buffer: &mut [u8], rows: usize, numbers: &[u16])
     let mut at: usize = HEAD;
     let mut offset = HEAD + ENTRY * numbers.len();
     while i < numbers.len() {
-        put_entry(buffer, rows, at, numbers[i], offset as u32);
+        entry::put_entry(buffer, rows, at, numbers[i], offset as u32);
         at += ENTRY;
         offset += body;
         i += 1;

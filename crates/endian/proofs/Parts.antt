@@ -67,7 +67,7 @@ unfolding part
 length-part s at k h = length-take-le k (drop at s) (omega (arith, length-drop at s))
 
 module _ {m : ℕ} (h : 0 < m) where
-  below-take : (k : ℕ) (l : List ℕ) → AllBelow m l → AllBelow m (take k l)
+  pub below-take : (k : ℕ) (l : List ℕ) → AllBelow m l → AllBelow m (take k l)
   below-take zero l b i = h
   below-take (suc k) [] b i = h
   below-take (suc k) (x ∷ l) b zero = b 0

@@ -2,12 +2,12 @@
 use mathlib.Core.Path.{_≡_, refl, sym, ap, _∙_}
 use Prim.Native.Nat.{ℕ, zero, suc, _+_, _-_, _*_, _≤_, _<_}
 use native.Mathlib.Omega.{arith}
-use native.Mathlib.Nat.{add-assoc}
+use native.Mathlib.Nat.{add-assoc, add-zero}
 use native.Mathlib.Numerals.{add-one}
 use mathlib.Core.List.{List, [], _∷_, _++_, append-assoc}
 use lib.ListN.{length, getD, set, take, drop, take-append-drop, drop-of-length-le}
-use lib.Seq.{sets, drop-cons, drop-drop, take-at, drop-at}
-use Rattle.endian.specs.Bytes.{littleEndian, le16, at16, part, words, bytesOf, AllBelow}
+use lib.Seq.{sets, drop-cons, drop-drop, take-at, drop-at, getD-drop}
+use Rattle.endian.specs.Bytes.{littleEndian, le16, fromLittleEndian, numberAt, at16, part, words, bytesOf, AllBelow}
 use Rattle.stores.proofs.Runs.{sets-then}
 use Rattle.endian.proofs.Parts.{length-littleEndian, littleEndian-numberAt, numberAt-behind, numberAt-front, part-join, part-none, tail-below}
 
@@ -30,6 +30,9 @@ unfolding words
 words-behind p s zero at step = refl
 words-behind p s (suc n) at step = rw (numberAt-behind 2 p s at, add-assoc (length p) at step, words-behind p s n (at + step) step)
 
+pub words-past : (p s : List ℕ) (at step n : ℕ) → length p ≡ at → words (p ++ s) at step n ≡ words s 0 step n
+words-past p s at step n e = ap (λ (i : ℕ). words (p ++ s) i step n) (sym e ∙ sym (add-zero (length p))) ∙ words-behind p s n 0 step
+
 pub words-add : (s : List ℕ) (n m at step : ℕ) → words s at step (n + m) ≡ words s at step n ++ words s (at + step * n) step m
 unfolding words
 words-add s zero m at step = let e : at ≡ at + step * 0 = omega arith in let f : 0 + m ≡ m = omega arith in rw f (ap (λ (i : ℕ). words s i step m) e)
@@ -44,6 +47,19 @@ unfolding words
 getD-words s zero at step i h = absurd (omega arith)
 getD-words s (suc n) at step zero h = ap (at16 s) (omega arith)
 getD-words s (suc n) at step (suc i) h = getD-words s n (at + step) step i (omega arith) ∙ ap (at16 s) (omega arith)
+
+-- bytes are below 256, so what 2 of them are is below 256 × 256
+two-below : (l : List ℕ) → AllBelow 256 l → fromLittleEndian (take 2 l) < 65536
+unfolding fromLittleEndian
+two-below [] b = omega arith
+two-below (x ∷ []) b = omega (arith, b 0)
+two-below (x ∷ y ∷ l) b = omega (arith, b 0, b 1)
+
+pub words-below : (s : List ℕ) → AllBelow 256 s → (n at step : ℕ) → AllBelow 65536 (words s at step n)
+unfolding words numberAt part
+words-below s b zero at step i = omega arith
+words-below s b (suc n) at step zero = two-below (drop at s) (λ i. rw (getD-drop at s i 0) (b (at + i)))
+words-below s b (suc n) at step (suc i) = words-below s b n (at + step) step i
 
 -- k words from the j-th of a run on
 pub words-within : (s : List ℕ) (at step j k n : ℕ) → j + k ≤ n → take k (drop j (words s at step n)) ≡ words s (at + step * j) step k
@@ -63,7 +79,7 @@ unfolding bytesOf littleEndian
 length-bytesOf [] = refl
 length-bytesOf (x ∷ xs) = omega (arith, length-bytesOf xs)
 
-bytesOf-append : (xs ys : List ℕ) → bytesOf (xs ++ ys) ≡ bytesOf xs ++ bytesOf ys
+pub bytesOf-append : (xs ys : List ℕ) → bytesOf (xs ++ ys) ≡ bytesOf xs ++ bytesOf ys
 unfolding bytesOf
 bytesOf-append [] ys = refl
 bytesOf-append (x ∷ xs) ys = ap (λ (r : List ℕ). le16 x ++ r) (bytesOf-append xs ys) ∙ sym (append-assoc (le16 x) (bytesOf xs) (bytesOf ys))

@@ -33,14 +33,18 @@ sets-right p e i (x ∷ xs) =
     ∙ ap (λ (k : ℕ). sets (p ++ set e i x) k xs) (omega arith)
     ∙ sets-right p (set e i x) (suc i) xs
 
--- a run from the start of the lent part `&mut d[a..]`, put back, is a run in d from a
+-- the part that is lent from a place to the end, `&mut d[a..]`, put back: the new end
+pub lent-end : (d ys : List ℕ) (a k : ℕ) → length d - a ≡ k → take a d ++ (ys ++ drop k (drop a d)) ≡ take a d ++ ys
+lent-end d ys a k e =
+    let l : length (drop a d) ≤ k = omega (arith, length-drop a d) in
+    ap (λ (r : List ℕ). take a d ++ (ys ++ r)) (drop-of-length-le (drop a d) l) ∙ ap (λ (r : List ℕ). take a d ++ r) (append-nil ys)
+
+-- a run from the start of such a part is a run in d from a
 pub sets-part : (d : List ℕ) (a k : ℕ) (xs : List ℕ) → a ≤ length d → length d - a ≡ k
     → take a d ++ (sets (take k (drop a d)) 0 xs ++ drop k (drop a d)) ≡ sets d a xs
 sets-part d a k xs h e =
-    let l : length (drop a d) ≤ k = omega (arith, length-drop a d) in
-    ap (λ (r : List ℕ). take a d ++ (sets r 0 xs ++ drop k (drop a d))) (take-all k (drop a d) l)
-    ∙ ap (λ (r : List ℕ). take a d ++ (sets (drop a d) 0 xs ++ r)) (drop-of-length-le (drop a d) l)
-    ∙ ap (λ (r : List ℕ). take a d ++ r) (append-nil (sets (drop a d) 0 xs))
+    lent-end d (sets (take k (drop a d)) 0 xs) a k e
+    ∙ ap (λ (r : List ℕ). take a d ++ sets r 0 xs) (take-all k (drop a d) (omega (arith, length-drop a d)))
     ∙ sym (sets-right (take a d) (drop a d) 0 xs)
     ∙ ap (λ (r : List ℕ). sets r (length (take a d) + 0) xs) (take-append-drop a d)
     ∙ ap (λ (i : ℕ). sets d i xs) (add-zero (length (take a d)) ∙ length-take-le a d h)

@@ -8,7 +8,7 @@ use Rattle.cie.specs.Spacing.{unknownSpacing}
 use Rattle.book.specs.Book.{isBook}
 use Rattle.book.proofs.Tests.{fails, holds}
 use Rattle.book.proofs.Rules.{book-contents}
-use Rattle.book.proofs.Outcomes.{unknown-spacing, short-places, not-a-book, no-such-shade, reads, read-refused, read-accepted}
+use Rattle.book.proofs.Outcomes.{no-book, no-shade, has-shade, unknown-spacing, short-places, right-places, read-refused, read-accepted}
 use Rattle.book.proofs.read.Statement.{statement}
 use Rattle.book.proofs.read.Tie as tie
 
@@ -35,7 +35,7 @@ returns-3 c =
     let t₂ = c .before .before in
     let t₁ = t₂ .before .before in
     let other = fails (c .before .is-book .ensures) (c .if3 .taken) in
-    read-refused _ _ _ _ NotABook (not-a-book _ _ _ _ (known t₁) (t₂ .before .rows-at .ensures .0) (t₂ .if2 .left) other)
+    read-refused _ _ _ _ NotABook (right-places _ _ _ _ (known t₁) (t₂ .before .rows-at .ensures .0) (t₂ .if2 .left) ∙ no-book _ _ _ other)
 
 find-requires : tie.Need-find-requires
 find-requires c κs = book-contents _ _ (book c)
@@ -50,8 +50,8 @@ returns-4 c =
     let t₂ = t₃ .before .before in
     let t₁ = t₂ .before .before in
     read-refused _ _ _ _ NoSuchShade
-    (no-such-shade _ _ _ _ (known t₁) (t₂ .before .rows-at .ensures .0) (t₂ .if2 .left) (book t₃) (n .before .find .ensures) (n .count .ensures .0)
-    (c .if4 .taken))
+    (right-places _ _ _ _ (known t₁) (t₂ .before .rows-at .ensures .0) (t₂ .if2 .left)
+    ∙ no-shade _ _ _ (book t₃) (n .before .find .ensures) (n .count .ensures .0) (c .if4 .taken))
 
 spectrum-at-requires : tie.Need-spectrum-at-requires
 spectrum-at-requires c κs =
@@ -70,7 +70,7 @@ returns-5 c =
     let t₁ = t₂ .before .before in
     let at = t₂ .before .rows-at .ensures .0 in
     read-accepted _ _ _ _
-    (reads _ _ _ _ (known t₁) at (t₂ .if2 .left) (book t₃) (place .find .ensures) (t₄ .before .count .ensures .0) (t₄ .if4 .left))
+    (right-places _ _ _ _ (known t₁) at (t₂ .if2 .left) ∙ has-shade _ _ _ (book t₃) (place .find .ensures) (t₄ .before .count .ensures .0) (t₄ .if4 .left))
     (t₂ .if2 .left ∙ at) (place .find .ensures) (filled .spectrum-at .ensures)
 
 pub read-spec : {M : Type 1} → statement M

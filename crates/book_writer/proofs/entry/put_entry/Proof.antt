@@ -1,4 +1,4 @@
--- `book_writer::parts::put_entry` meets its contract: three runs of stores join to the entry's. Assumes nothing.
+-- `book_writer::entry::put_entry` meets its contract: three runs of stores join to the entry's. Assumes nothing.
 use mathlib.Core.Path.{ap, _∙_}
 use mathlib.Core.List.{List}
 use Prim.Native.Nat.{ℕ, _+_}
@@ -6,8 +6,8 @@ use borrow.Author.Needs.{needs}
 use lib.Seq.{sets}
 use Rattle.endian.specs.Bytes.{le16, le32}
 use Rattle.book_writer.proofs.Stored.{entry-stores}
-use Rattle.book_writer.proofs.parts.put_entry.Statement.{statement}
-use Rattle.book_writer.proofs.parts.put_entry.Tie as tie
+use Rattle.book_writer.proofs.entry.put_entry.Statement.{statement}
+use Rattle.book_writer.proofs.entry.put_entry.Tie as tie
 
 returns : tie.Need-returns
 returns c =
