@@ -7,7 +7,7 @@ import book
 from book import ENTRY, HEAD, SHADE_LIMIT, total
 from books import (
     LAST_SHADE, MIXTURES, books_of_note, damaged_book, made, mixed_books, overwrite,
-    rising_numbers, whole_book,
+    rising_numbers, wanted, whole_book,
 )
 from ledger import FRAME_LIMIT, READER_LIMIT, Refused
 from lines import (
@@ -153,15 +153,6 @@ def places(chance, spacing):
 def wrong_places(chance, spacing):
     others = {0, 1, 40, 41, 42, 80, 81, 82, 162} - {LENGTHS[spacing]}
     return chance.bytes(2 * chance.pick(sorted(others)))
-
-
-def wanted(chance, data):
-    """Mostly a number that stands at the first, the last or another entry."""
-    last = max(book.take(data, 4, 2), 1) - 1
-    place = chance.pick((0, last, chance.below(last + 1)))
-    there = book.take(data, HEAD + ENTRY * place, 2)
-    near = chance.pick((there - 1, there + 1, 0, 65_535, chance.below(65_536)))
-    return near % 65_536 if chance.one_in(4) else there
 
 
 def faulty_read(chance, faults):

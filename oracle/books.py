@@ -133,3 +133,12 @@ def damaged_book(chance, spacing):
             mixed_books(chance, chance.pick(MIXTURES)).values()))),
         lambda: ("any byte", overwrite(data, chance.below(len(data)), chance.below(256), 1)),
     ))()
+
+
+def wanted(chance, data):
+    """A shade number: mostly one that stands at the first, the last or another entry."""
+    last = max(book.take(data, 4, 2), 1) - 1
+    place = chance.pick((0, last, chance.below(last + 1)))
+    there = book.take(data, HEAD + ENTRY * place, 2)
+    near = chance.pick((there - 1, there + 1, 0, 65_535, chance.below(65_536)))
+    return near % 65_536 if chance.one_in(4) else there

@@ -37,7 +37,8 @@ static uint8_t *taken(size_t size)
     return space;
 }
 
-static uint8_t *copied(const uint8_t *space, size_t size)
+/* This and the last are inline so that a driver may do without them. */
+static inline uint8_t *copied(const uint8_t *space, size_t size)
 {
     uint8_t *copy = room(size);
     memcpy(copy, space, size + 2 * GUARD);
@@ -63,7 +64,7 @@ static void answer(uint64_t result, uint8_t *lent, size_t size)
 }
 
 /* What a call only reads is as it was, guards included. Frees both. */
-static void must_be_kept(uint8_t *space, uint8_t *copy, size_t size)
+static inline void must_be_kept(uint8_t *space, uint8_t *copy, size_t size)
 {
     if (memcmp(space, copy, size + 2 * GUARD) != 0) {
         fputs("the call changed what it only reads\n", stderr);

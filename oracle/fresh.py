@@ -1,12 +1,9 @@
-"""Fresh random lists of calls, with what the ledger answers."""
+"""Fresh random lists of calls."""
 
-from collections import Counter, namedtuple
-
-import exact
-from chance import Chance
-from colour import Colour, colour, difference
+from call_list import CallList, written_list
+from colour import colour, difference
 from inspection import old_trials
-from ledger import GUARD, INSPECTION_TABLES, Ledger, Preview, Trial
+from ledger import GUARD, INSPECTION_TABLES
 from lines import (
     AROUND_LIMITS, NO_SUCH_TABLES, OTHER, REPORT, TOO_LARGE, UNKNOWN_SPACINGS, any_spectrum,
     changed, few_rows_tables, full_tables, largest_tables, light, near_spectrum, opening, preview,
@@ -14,9 +11,9 @@ from lines import (
 )
 from near_limit import near_the_limit
 from published import flat, three_rows
-from replay import READING_BITS, Step, answer, at_table, whole_table
 from spacings import old_openings
 from spots import any_pooling
+from strikes import any_striking, struck_again
 from tables import LENGTHS
 from unreadable import unreadable
 
@@ -25,49 +22,9 @@ SPACING_WORDS = {5: (5, 5, 5, "05"), 10: (10, 10, 10, "00010")}
 BRIGHT_READINGS = (*AROUND_LIMITS, 40_000, 65_535, 65_536, TOO_LARGE)
 BAD_ENTRIES = (2_000_001, 3_000_001, 2**32, TOO_LARGE)
 
-Measured = namedtuple("Measured", "conditions spectrum colour")
 
-
-class CallList:
-    """A script as it grows, with the expected step of every line that is not empty."""
-
-    def __init__(self, seed):
-        self.chance = Chance(seed)
-        self.ledger = Ledger()
-        self.lines, self.steps, self.misjudged = [], [], []
-        self.judged = Counter()  # trials and previews, by verdict, spacing and inspection table
-        self.measured = []  # the spectra that were accepted
-
-    def say(self, line):
-        self.lines.append(line)
-        if not line:
-            return
-        step = Step(len(self.lines), line, *answer(self.ledger, line))
-        self.steps.append(step)
-        words = line.split(b" ")[1:]
-        if isinstance(step.result, Colour):
-            self.measure(whole_table(words, READING_BITS), step.result)
-        if isinstance(step.result, (Trial, Preview)):
-            table_number, spectrum = at_table(words)
-            self.measure(spectrum, step.result.colour)
-            self.weigh(step, table_number, spectrum)
-
-    def measure(self, spectrum, own):
-        self.measured.append(Measured(self.ledger.conditions, spectrum, own))
-
-    def weigh(self, step, table_number, spectrum):
-        """Counts a verdict; it is misjudged unless the exact difference bears it out."""
-        held, verdict = self.ledger, step.result.verdict
-        self.judged[verdict, held.conditions.spacing, table_number] += 1
-        if not exact.verdict_holds(
-                verdict, *held.tolerance, held.standard, spectrum, held.conditions):
-            self.misjudged.append(step)
-
-    def script(self):
-        ending = b"" if self.chance.one_in(4) else b"\n"
-        return b"\n".join(self.lines) + ending
-
-    # Moves: each says a line or a few.
+class RandomList(CallList):
+    """Each of its moves says a line or a few."""
 
     def in_force(self):
         """The spacing in force, or either when nothing is opened."""
@@ -169,6 +126,13 @@ class CallList:
         elif pooled:
             self.say(trial(self.table_number(), pooled.readings))
 
+    def strike_shades(self):
+        """Often accepted; as long as it is, another may be struck from what is left."""
+        spacing = self.in_force()
+        self.say(any_striking(self.chance, spacing, self.named(spacing)))
+        while self.steps[-1].result and not self.chance.one_in(3):
+            self.say(struck_again(self.chance, spacing, self.steps[-1].result))
+
     def judge_at_the_guard(self):
         """A spectrum near the standard, tried and now and then previewed at tolerances at the
         edges of its difference."""
@@ -220,25 +184,17 @@ class CallList:
 
 UNREADABLE = unreadable() + old_openings() + old_trials()
 MOVES = (
-    [CallList.open_light] * 3 + [CallList.open_tables] * 2 + [CallList.enter_standard] * 5
-    + [CallList.enter_tolerance] * 4 + [CallList.enter_trial] * 10 + [CallList.look] * 5
-    + [CallList.judge_at_the_guard] * 10 + [CallList.judge_at_the_limit] * 2
-    + [CallList.pool_spots] * 2 + [CallList.say_report] * 2 + [CallList.say_unreadable]
-    + [CallList.damage_a_line]
+    [RandomList.open_light] * 3 + [RandomList.open_tables] * 2 + [RandomList.enter_standard] * 5
+    + [RandomList.enter_tolerance] * 4 + [RandomList.enter_trial] * 10 + [RandomList.look] * 5
+    + [RandomList.judge_at_the_guard] * 10 + [RandomList.judge_at_the_limit] * 2
+    + [RandomList.pool_spots] * 2 + [RandomList.strike_shades] * 2 + [RandomList.say_report] * 2
+    + [RandomList.say_unreadable] + [RandomList.damage_a_line]
 )
-
-
-def written_list(script):
-    """A list that is already written."""
-    made = CallList(0)
-    for line in script.split(b"\n"):
-        made.say(line)
-    return made
 
 
 def call_list(seed):
     """A list of 1 to some 150 calls; most begin with an accepted opening."""
-    made = CallList(seed)
+    made = RandomList(seed)
     if not made.chance.one_in(5):
         made.say(light(made.chance.between(1, 2), made.chance.pick((5, 10))))
         made.enter_standard()

@@ -13,7 +13,7 @@ NO_CONDITIONS, NO_STANDARD, NO_TOLERANCE, TOLERANCE_OFF_SCALE, SESSION_FULL = 6,
 NO_SUCH_LIGHT, UNKNOWN_SPACING, NO_SUCH_TABLE, SPOT_COUNT = 16, 17, 18, 19
 
 FRAME_LIMIT = 12_000  # of readings measured in a session, written into a book or pooled
-READER_LIMIT = 20_000  # of readings in a book that is read or listed, and in a host call
+READER_LIMIT = 20_000  # of readings in a book that is read, listed or struck, and in a host call
 ILLUMINANT_LIMIT = 3_000_000
 OBSERVER_LIMIT = 2_000_000
 TOLERANCE_LIMIT = 1_000_000

@@ -7,10 +7,10 @@ and v, and each of them is often larger.
 from collections import Counter, defaultdict
 from itertools import permutations
 
+from call_list import CallList
 from chance import Chance
 from colour import above_limit, cube_root_down, sums
 from expect import Difference
-from fresh import CallList
 from ledger import FRAME_LIMIT, Ledger
 from lines import (
     any_spectrum, by_turns, changed, full_tables, light, opening, preview, standard, tolerance,

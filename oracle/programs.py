@@ -75,6 +75,11 @@ class Built:
         data = b"".join(map(pool_bytes, calls))
         return results(drive("pool_driver", PROBE, data), [len(call.lent) for call in calls])
 
+    def strike(self, calls):
+        """Result and what is left in the buffer, as bytes, for each call."""
+        data = b"".join(map(strike_bytes, calls))
+        return results(drive("strike_driver", PROBE, data), [len(call.lent) for call in calls])
+
     def lists(self, runs):
         """Result and what is left in the buffer, as bytes, for each list of calls."""
         data = b"".join(map(run_bytes, runs))
@@ -100,6 +105,10 @@ class StandIn(Built):
 
     def pool(self, calls):
         from pool_calls import answer
+        return [answer(call) for call in calls]
+
+    def strike(self, calls):
+        from strike_calls import answer
         return [answer(call) for call in calls]
 
     def lists(self, runs):
@@ -131,6 +140,10 @@ def call_bytes(call):
 def pool_bytes(call):
     head = native(call.spacing, call.count, len(call.readings), len(call.lent) // 2)
     return head + words(call.readings) + call.lent
+
+
+def strike_bytes(call):
+    return native(call.spacing, call.number, len(call.lent)) + call.lent
 
 
 def run_bytes(run):

@@ -97,7 +97,7 @@ def recorded(chance, steps):
     """The calls of a script's lines as a run, and the steps that are calls."""
     held, made = Recorder(chance), []
     for step in steps:
-        if replay.is_pooling(step.line):
+        if replay.beside_the_session(step.line):
             continue
         try:
             replay.call(held, step.line)

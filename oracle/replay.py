@@ -5,13 +5,15 @@ Rules where the design's text is silent:
   line is passed over.
 - Words are apart by exactly one space; no leading or trailing space, no extra word.
 - A number is one or more of the digits 0 to 9; leading zeros are allowed, signs are not. One too
-  large for its place counts as the largest that fits there: readings have 16 bits; entries of an
-  opening's tables, the tolerance's amount, the light number, the spacing, the number of an
-  inspection table and the number of spots have 32; a length has 64.
+  large for its place counts as the largest that fits there: readings and shade numbers have 16
+  bits; entries of an opening's tables, the tolerance's amount, the light number, the spacing, the
+  number of an inspection table and the number of spots have 32; a length has 64.
 - An opening's table, a spectrum or the spots of a pooling have any length, 0 included, but as many
   numbers must follow as it says.
-- A pooling is no call of the session, and may stand anywhere. The places that it is lent have the
-  rows of its spacing.
+- The buffer of a strike is one word of hexadecimal digits, 0 to 9 and a to f, two for each byte; it
+  has any length, but at least one byte.
+- A pooling and a strike are no calls of the session, and may stand anywhere. The places that a
+  pooling is lent have the rows of its spacing.
 - A line that was a call in the form of an earlier job is read in the form of today: where its
   numbers happen to fit that, it is the call that they say.
 Any other line is unreadable and is no call.
@@ -22,15 +24,19 @@ from collections import namedtuple
 from colour import Colour
 from ledger import Ledger, Preview, Refused, Trial
 from pooling import pool
+from striking import strike
 from tables import LENGTHS
 
-READING_BITS, LENGTH_BITS = 16, 64
+READING_BITS, SHADE_BITS, LENGTH_BITS = 16, 16, 64
 ENTRY_BITS = 32  # also of an amount, a light, a spacing, an inspection table and a spot count
 
+HEX_DIGITS = b"0123456789abcdef"
+
 # result is what the ledger returned: None, a Colour, a Trial, a Preview or the tallies; or the
-# Spectrum of a pooling.
+# Spectrum of a pooling, or what is Struck: the length of the book that is left, and the buffer.
 Step = namedtuple("Step", "number line answer result")
 Spectrum = namedtuple("Spectrum", "readings")
+Struck = namedtuple("Struck", "length buffer")
 
 
 class Unreadable(Exception):
@@ -84,9 +90,11 @@ def four_tables(words):
     return tables
 
 
-def is_pooling(line):
-    """Whether a line asks for no call of the session, if it is readable."""
-    return line.split(b" ", 1)[0] == b"pool"
+def buffer_bytes(word):
+    """The bytes that the digits of a word are."""
+    if not word or len(word) % 2 or word.translate(None, HEX_DIGITS):
+        raise Unreadable
+    return bytearray.fromhex(word.decode())
 
 
 def pooling(words):
@@ -97,11 +105,28 @@ def pooling(words):
     return Spectrum(places)
 
 
+def striking(words):
+    if len(words) != 3:
+        raise Unreadable
+    spacing, shade = number(words[0], ENTRY_BITS), number(words[1], SHADE_BITS)
+    buffer = buffer_bytes(words[2])
+    length = strike(spacing, shade, buffer)
+    return Struck(length, bytes(buffer))
+
+
+BESIDE = {b"pool": pooling, b"strike": striking}
+
+
+def beside_the_session(line):
+    """Whether a line asks for no call of the session, if it is readable."""
+    return line.split(b" ", 1)[0] in BESIDE
+
+
 def call(ledger, line):
     """Reads a line whole before the ledger sees it, then makes its call."""
     name, *words = line.split(b" ")
-    if is_pooling(line):
-        return pooling(words)
+    if beside_the_session(line):
+        return BESIDE[name](words)
     if name == b"light":
         return ledger.open_light(*so_many(2, words))
     if name == b"open":
@@ -132,6 +157,8 @@ def answer_text(result):
         return f"colour {numbers(result)}"
     if isinstance(result, Spectrum):
         return f"spectrum {numbers([len(result.readings), *result.readings])}"
+    if isinstance(result, Struck):
+        return f"struck {result.length} {result.buffer.hex()}"
     return f"tallies {numbers(result)}"
 
 

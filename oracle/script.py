@@ -22,6 +22,7 @@ from spacings import (
     changes, every_length, left_in_force, old_openings, refused_openings, unknown_spacings,
 )
 from spots import poolings
+from strikes import strikes
 from tables import LENGTHS, LIGHTS, light_tables
 from unreadable import unreadable
 
@@ -226,7 +227,7 @@ def script(chance, shades):
         *around_the_limits(5), *around_the_limits(10), *shades_as_standards(shades),
         *edge_tables(chance, 5), *edge_tables(chance, 10), *marked_examples(5),
         *marked_examples(10), *around_the_limit(5), *around_the_limit(10), *whites(),
-        *printed_tables(), *lots(chance), *poolings(),
+        *printed_tables(), *lots(chance), *poolings(), *strikes(),
         *old_trials(), *old_openings(), *unreadable(), REPORT,
     ]
     return b"\n".join(said)

@@ -1,9 +1,12 @@
 """Lines that are no call, and odd lines that are."""
 
+from book import book_bytes
 from lines import REPORT, TOO_LARGE, counted, opening
 from published import THREE_ROWS, flat
 
 ZEROS, ONE_SHORT = counted(flat(0)), counted(flat(0))[:-2]  # with their number
+EMPTY_BOOK = book_bytes([]).hex()
+ONE_SHADE = book_bytes([(7, flat(1_250, 10))]).hex()  # shade 7, at 10 nm
 
 
 def no_trials(word):
@@ -53,6 +56,45 @@ def odd_poolings():
     )]
 
 
+def no_strikes():
+    """Lines that begin with the word of a strike and are none: also with a character that is no
+    digit, but next to one or like one, in the first, a middle and the last place."""
+    empty = EMPTY_BOOK
+    return [f"strike{rest}".encode("latin-1") for rest in (
+        "", " ", " 5", " 5 ", " 5 7", " 5 7 ", f" {empty}", f" 7 {empty}", f" 5 {empty} 7",
+        f" {empty} 5 7", f" 5 7 {empty} ", f" 5 7 {empty}\r", f" 5 7 {empty}\0", f" 5 7 {empty} 7",
+        f" 5 7 {empty} {empty}", f" 5 5 7 {empty}", f" 5 7 6 {empty}", f"  5 7 {empty}",
+        f" 5  7 {empty}", f" 5 7  {empty}", f"\t5 7 {empty}", f" 5\t7 {empty}", f" 5 7\t{empty}",
+        f" 5 7 {empty}\t", f" -5 7 {empty}", f" 5 -7 {empty}", f" +5 7 {empty}", f" 5 +7 {empty}",
+        f" five 7 {empty}", f" 5 seven {empty}", f" 5.0 7 {empty}", f" 5 7.0 {empty}",
+        f" 0x5 7 {empty}", f" a 7 {empty}", f" 5 0x7 {empty}", f" 5 a {empty}", f" 5 7, {empty}",
+        f" \xd9\xa5 7 {empty}", f" 5 \xd9\xa7 {empty}", f" \xff 7 {empty}", f" 5 \xff {empty}",
+        f"5 7 {empty}", f" 5 7{empty}", f"s 5 7 {empty}", f" lab 5 7 {empty}", f" 5 lab 7 {empty}",
+        f" strike 5 7 {empty}", f" 5 7 {empty.upper()}", f" 5 7 0x{empty}", f" 5 7 {empty[:-1]}",
+        f" 5 7 {empty}0", f" 5 7 0{empty}", " 5 7 0", " 5 7 000", " 6 7 0", " 6 0 x", " 6 0 0g",
+        " 5 7 53 42 4b 31 00 00", f" 5 7 {empty[:8]} 0000", f" 5 7 -{empty[1:]}",
+        f" 5 7 +{empty[1:]}", f" 5 7 {empty[:-2]}\xd9\xa5", f" 5 7 \xef\xbb\xbf0{empty}",
+        f" 10 7 {ONE_SHADE.upper()}", f" 10 7 {ONE_SHADE[:-1]}", f" 10 7 {ONE_SHADE}0",
+        f" 10 7 {ONE_SHADE} ", f" 10 7 {ONE_SHADE[:-1]}x", f" 10 7 {ONE_SHADE[:-1]}F",
+        *(f" 5 7 {empty[:at]}{other}{empty[at + 1:]}"
+          for other in "/:@AFG`gx.\t\0\xb5" for at in (0, 7, 11)),
+    )] + [f"{line} {empty}".encode() for line in (
+        "Strike 5 7", "strik 5 7", " strike 5 7", "5 strike 7", "struck 5 7", "struck 6",
+    )]
+
+
+def odd_strikes():
+    """Odd lines that are a strike: refused with 17, 11 or 12, and three that are accepted."""
+    book = ONE_SHADE
+    return [f"strike{rest}".encode() for rest in (
+        " 0 0 00", " 00 000 0000", " 5 0 00", " 005 007 0123456789abcdef", " 10 7 10",
+        f" {TOO_LARGE} {TOO_LARGE} 00", f" {TOO_LARGE} 7 {book}", f" 10 {TOO_LARGE} {book}",
+        f" {2**32 + 10} 7 {book}", f" 10 {2**16 + 7} {book}", f" 10 7 {book}00",
+        f" 10 7 00{book}", f" 10 7 {book[:-2]}", f" 10 7 {book}", f" 010 007 {book}",
+        f" {'0' * 40}10 {'0' * 40}7 {book}",
+    )]
+
+
 def unreadable():
     return [
         b"", b" ", b"  ", b"\t", b"\r", b"\0", b"report ", b" report", b"report\r", b"report\0",
@@ -81,7 +123,7 @@ def unreadable():
         f"standard {ZEROS[:-1]}x".encode(), f"standard {ZEROS[:-2]}  0".encode(),
         *no_trials("trial"), *no_trials("preview"), b"Trial 8 0", b"tria 8 0", b" trial 8 0",
         b"Preview 8 0", b"previe 8 0", b" preview 8 0", b"8 trial 0", b"standard 8 0",
-        *no_poolings(),
+        *no_poolings(), *no_strikes(),
         b"open", b"open ", b"open 5", b"open 5 0", b"open 5 0 0 0", b"open 5 0 0 0 ",
         b"open 5 0 0 0 0 0", b"open 5 0 0 0 0 ", b"open  5 0 0 0 0", b"open 5  0 0 0 0",
         b"open five 0 0 0 0", b"open -5 0 0 0 0", b"open 5, 0 0 0 0", b"open 0 0 0 0",
@@ -98,5 +140,5 @@ def unreadable():
         b"standard 0", *odd_trials("trial"), *odd_trials("preview"),
         f"standard 00081 {ZEROS[3:]}".encode(), *odd_trials("trial"),
         b"tolerance lab 000000000000000000000000000007", *odd_trials("preview"),
-        *odd_trials("trial"), *odd_poolings(), REPORT, b"",
+        *odd_trials("trial"), *odd_poolings(), *odd_strikes(), REPORT, b"",
     ]

@@ -1,8 +1,9 @@
-// The book's calls, the pooling of spots, the run of a list of calls and a run of trials, for tests and benchmarks in C: no part of the product.
+// The calls of a book, the pooling of spots, the run of a list of calls and a run of trials, for tests and benchmarks in C: no part of the product.
 ghost use mathlib.Core.Path.{_≡_};
 ghost use lib.ListN.{length};
 ghost use Rattle.book.specs.Reading.{found, placesAfterRead};
 ghost use Rattle.book_writer.specs.Writing.{written, bufferAfterWrite};
+ghost use Rattle.strike.specs.Striking.{struck, bufferAfterStrike};
 ghost use Rattle.pool.specs.Pooling.{pooled, placesAfterPool};
 ghost use Rattle.calls.specs.Run.{ran, answersAfter};
 ghost use Rattle.session.specs.Served.{outcomeOf, Valid};
@@ -15,8 +16,9 @@ use cie::spacing::FINE_SPACING;
 use pool::Pooled;
 use session::Answer;
 use session::Session;
+use strike::Struck;
 
-// A refused write or run answers the cause's number above this: no book is as long, and no list of a test.
+// A refused write, strike or run answers the cause's number above this: no book is as long, and no list of a test.
 const REFUSED: u64 = 4294967296;
 
 // Writes a book at a spacing, and answers its length, or 2^32 and the cause's number.
@@ -45,6 +47,18 @@ pub extern "C" fn probe_read(spacing: u32, book: &[u8], number: u16, places: &mu
     match book::read(spacing, book, number, places) {
         Found::Read => 0,
         Found::Refused(cause) => causes::number(cause),
+    }
+}
+
+// Strikes a shade of the book of a spacing that fills the buffer, and answers the length of the book that is left, or 2^32 and the cause's number.
+#[no_mangle]
+pub extern "C" fn probe_strike(spacing: u32, number: u16, buffer: &mut [u8]) -> u64
+    ensures { λ r. ⌜ r ≡ countCode (struck spacing number (now (buffer .entry))) ⌝ }
+    ensures { λ _. ⌜ now (buffer .exit) ≡ bufferAfterStrike spacing number (now (buffer .entry)) ⌝ }
+{
+    match strike::strike(spacing, number, buffer) {
+        Struck::Left(length) => length as u64,
+        Struck::Refused(cause) => REFUSED + causes::number(cause) as u64,
     }
 }
 

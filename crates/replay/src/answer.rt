@@ -1,36 +1,47 @@
-// A line's call made, or its spots pooled, and the answer printed.
+// A line's call made, its spots pooled or its shade struck, and the answer printed.
 ghost use Prim.Native.Nat.{_≤_};
 ghost use lib.ListN.{length};
 ghost use Rattle.cie.specs.Spacing.{mostRows};
 ghost use Rattle.session.specs.Served.{Valid};
-use crate::line::Asked;
-use crate::line::ENTRIES;
-use crate::line::POOL_COUNT;
-use crate::line::POOL_LENGTH;
-use crate::line::POOL_SPACING;
-use crate::line::STRETCH;
-use crate::line::Stage;
+use crate::beside;
+use crate::form::Asked;
+use crate::form::ENTRIES;
+use crate::form::LENGTH;
+use crate::form::NUMBER;
+use crate::form::SPACING;
+use crate::form::SPOTS;
+use crate::form::STRETCH;
+use crate::form::Stage;
+use crate::line;
 use crate::print;
 use crate::reader::Reader;
 use cie::spacing::MOST_ROWS;
 use pool::Pooled;
 use session::Answer;
 use session::Session;
+use strike::Struck;
 
-// The first entries as readings: each, or the largest of 16 bits.
+// The number, or the largest of 16 bits.
+fn short(n: u32) -> u16 {
+    if n < 65535 {
+        return n as u16;
+    }
+    65535
+}
+
+// The first entries as readings.
 fn put_readings(entries: &[u32], readings: &mut [u16])
     requires { ⌜ length (now readings) ≤ length (now entries) ⌝ }
 {
     let mut i = 0;
     while i < readings.len() {
-        let entry = entries[i];
-        readings[i] = if entry < 65535 { entry as u16 } else { 65535 };
+        readings[i] = short(entries[i]);
         i = i + 1;
     }
 }
 
 // Makes the call of a line, and prints its answer.
-fn called(session: Session, record: &[u32], entries: &[u32; 1297]) -> Session
+fn called(session: Session, record: &[u32], entries: &[u32; 34007]) -> Session
     requires { ⌜ Valid session ⌝ }
     ensures { λ r. ⌜ Valid r ⌝ }
 {
@@ -48,40 +59,75 @@ fn pooled(spacing: u32, count: u32, entries: &[u32], spots: &mut [u16], places: 
 {
     put_readings(entries, spots);
     match pool::pool(spacing, count, spots, places) {
-        Pooled::Whole => print::print_spectrum(places),
+        Pooled::Whole => beside::print_spectrum(places),
         Pooled::Refused(cause) => print::print(Answer::Refused(cause)),
     }
 }
 
-// How many entries a pooling has, by a word that counts them up to the room that they have.
-fn counted(n: u32) -> usize
-    ensures { λ r. ⌜ r ≤ 1297 ⌝ }
+// How many entries a line has, by a word that counts them up to the room that they have.
+fn counted(n: u32, room: usize) -> usize
+    ensures { λ r. ⌜ r ≤ room ⌝ }
 {
     let entries = n as usize;
-    if entries < ENTRIES {
+    if entries < room {
         return entries;
     }
-    ENTRIES
+    room
 }
 
 // Answers the line of a pooling, in room that is lent for its spots and its spectrum.
 fn pooled_line(record: [u32; 10], entries: &[u32], spots: &mut [u16], places: &mut [u16])
     requires { ⌜ (1297 ≤ length (now entries)) × (1297 ≤ length (now spots)) × (mostRows ≤ length (now places)) ⌝ }
 {
-    let n = counted(record[POOL_LENGTH]);
-    let spacing = record[POOL_SPACING];
+    let n = counted(record[LENGTH], SPOTS);
+    let spacing = record[SPACING];
     let rows = cie::spacing::rows_at(spacing);
     pooled(
         spacing,
-        record[POOL_COUNT],
+        record[NUMBER],
         entries,
         &mut spots[..n],
         &mut places[..rows],
     );
 }
 
+// The first entries as bytes.
+fn put_bytes(entries: &[u32], bytes: &mut [u8])
+    requires { ⌜ length (now bytes) ≤ length (now entries) ⌝ }
+{
+    let mut i = 0;
+    while i < bytes.len() {
+        bytes[i] = (entries[i] % 256) as u8;
+        i = i + 1;
+    }
+}
+
+// Strikes a shade of the book that the first entries are, and prints what is left.
+fn struck(spacing: u32, number: u16, entries: &[u32], buffer: &mut [u8])
+    requires { ⌜ (length (now buffer) ≤ length (now entries)) × (length (now buffer) ≤ 34007) ⌝ }
+{
+    put_bytes(entries, buffer);
+    match strike::strike(spacing, number, buffer) {
+        Struck::Left(left) => beside::print_struck(line::capped(left as u64), buffer),
+        Struck::Refused(cause) => print::print(Answer::Refused(cause)),
+    }
+}
+
+// Answers the line of a strike, in room that is lent for its buffer.
+fn struck_line(record: [u32; 10], entries: &[u32], buffer: &mut [u8])
+    requires { ⌜ (34007 ≤ length (now entries)) × (34007 ≤ length (now buffer)) ⌝ }
+{
+    let n = counted(record[LENGTH] / 2, ENTRIES);
+    struck(
+        record[SPACING],
+        short(record[NUMBER]),
+        entries,
+        &mut buffer[..n],
+    );
+}
+
 // Answers the line that ends here, and returns the session that it leaves. An empty line is passed over.
-pub fn answered(session: Session, reader: Reader, entries: &mut [u32; 1297]) -> Session
+pub fn answered(session: Session, reader: Reader, entries: &mut [u32; 34007]) -> Session
     requires { ⌜ Valid session ⌝ }
     ensures { λ r. ⌜ Valid r ⌝ }
 {
@@ -95,9 +141,14 @@ pub fn answered(session: Session, reader: Reader, entries: &mut [u32; 1297]) -> 
             match asked {
                 Asked::Call => called(session, &record, entries),
                 Asked::Pool => {
-                    let mut spots = [0u16; ENTRIES];
+                    let mut spots = [0u16; SPOTS];
                     let mut places = [0u16; MOST_ROWS];
                     pooled_line(record, entries, &mut spots, &mut places);
+                    session
+                }
+                Asked::Strike => {
+                    let mut buffer = [0u8; ENTRIES];
+                    struck_line(record, entries, &mut buffer);
                     session
                 }
             }

@@ -1,7 +1,8 @@
 // The words that begin a line, and what each asks for.
+use crate::form::Asked;
+use crate::form::Stage;
+use crate::form::TABLES;
 use crate::line::Line;
-use crate::line::Stage;
-use crate::line::TABLES;
 use crate::token::Token;
 
 // The line of a command.
@@ -25,7 +26,10 @@ pub fn of_command(token: Token) -> Line {
         return Line::started(calls::OPEN_LIGHT, Stage::Number, 0).with_words(1, 3);
     }
     if token.is(b"pool") {
-        return Line::pooling();
+        return Line::beside(Asked::Pool, 1);
+    }
+    if token.is(b"strike") {
+        return Line::beside(Asked::Strike, 0);
     }
     if token.is(b"open") {
         return Line::started(calls::OPEN_TABLES, Stage::Number, TABLES).with_words(9, 10);

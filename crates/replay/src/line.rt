@@ -1,48 +1,22 @@
 // A line of the script, as its words come.
 ghost use Prim.Native.Nat.{_+_, _≤_, _<_};
 use crate::command;
+use crate::form::Asked;
+use crate::form::LENGTH;
+use crate::form::NUMBER;
+use crate::form::SPACING;
+use crate::form::SPOTS;
+use crate::form::STRETCH;
+use crate::form::Stage;
+use crate::form::TABLES;
+use crate::hex;
 use crate::token::Token;
-use cie::spacing::MOST_ROWS;
-use pool::MOST_SPOTS;
-
-// The tables of a call stand one after the other among the lent entries, each in a stretch of 82: one more than a table may
-// have, so that a longer one is seen to be too long.
-pub const STRETCH: usize = MOST_ROWS + 1;
-
-pub const TABLES: usize = 4;
-
-// The spots of a pooling may take all of the entries: one more than 16 spots of 81 rows have.
-pub const ENTRIES: usize = MOST_ROWS * MOST_SPOTS as usize + 1;
-
-// What a line asks for: a call of the session, or spots pooled.
-pub enum Asked {
-    Call,
-    Pool,
-}
-
-// What may come next.
-pub enum Stage {
-    Start,
-    Space,
-    Number,
-    Length,
-    Entry,
-    End,
-    Unreadable,
-}
-
-// The words of a pooling's record: how many entries it has, the spacing and the number of spots.
-pub const POOL_LENGTH: usize = 2;
-
-pub const POOL_SPACING: usize = 3;
-
-pub const POOL_COUNT: usize = 4;
 
 pub struct Line {
     pub stage: Stage,
     pub asked: Asked,
     // the record of its call: a light, a spacing, an amount, an inspection table, and where each table starts and how many
-    // entries it has, counted up to its room; or the record of a pooling
+    // entries it has, counted up to its room; or the record of a pooling or a strike
     pub record: [u32; 10],
     // the words of the record that its numbers go to: the next, and the one after the last
     next: usize,
@@ -55,7 +29,7 @@ pub struct Line {
 }
 
 // The number, or the largest of 32 bits.
-fn capped(n: u64) -> u32 {
+pub fn capped(n: u64) -> u32 {
     if n < 4294967295 {
         return n as u32;
     }
@@ -93,16 +67,16 @@ impl Line {
         self
     }
 
-    // The line of a pooling.
-    pub fn pooling() -> Line {
+    // The line of a pooling or a strike, that has so many tables.
+    pub fn beside(asked: Asked, tables: usize) -> Line {
         Line {
             stage: Stage::Number,
-            asked: Asked::Pool,
+            asked: asked,
             record: [0; 10],
-            next: POOL_SPACING,
-            end: POOL_COUNT + 1,
+            next: SPACING,
+            end: NUMBER + 1,
             whole: 0,
-            tables: 1,
+            tables: tables,
             left: 0,
         }
     }
@@ -145,9 +119,9 @@ impl Line {
         start: usize,
         room: usize,
         value: u64,
-        entries: &mut [u32; 1297],
+        entries: &mut [u32; 34007],
     ) -> Line
-        requires { ⌜ (length < 10) × (start + room ≤ 1297) ⌝ }
+        requires { ⌜ (length < 10) × (start + room ≤ 34007) ⌝ }
     {
         let n = self.record[length] as usize;
         if room <= n {
@@ -159,12 +133,12 @@ impl Line {
     }
 
     // One entry more of the present table, or of the spots.
-    fn with_stored(self, value: u64, entries: &mut [u32; 1297]) -> Line {
+    fn with_stored(self, value: u64, entries: &mut [u32; 34007]) -> Line {
         let asked = self.asked;
         let table = self.whole;
         match asked {
-            Asked::Pool => self.stored(POOL_LENGTH, 0, ENTRIES, value, entries),
-            Asked::Call => {
+            Asked::Pool => self.stored(LENGTH, 0, SPOTS, value, entries),
+            _ => {
                 if TABLES <= table {
                     return self;
                 }
@@ -173,7 +147,7 @@ impl Line {
         }
     }
 
-    fn with_entry(self, value: u64, entries: &mut [u32; 1297]) -> Line {
+    fn with_entry(self, value: u64, entries: &mut [u32; 34007]) -> Line {
         let mut next = self.with_stored(value, entries);
         let left = next.left;
         if left <= 1 {
@@ -183,7 +157,21 @@ impl Line {
         next
     }
 
-    // One number more goes to its word of the record; after the last come the tables, if there are any.
+    // After the last number come the digits of a strike, or the tables, if there are any.
+    fn past_numbers(self) -> Line {
+        let asked = self.asked;
+        match asked {
+            Asked::Strike => self.at_stage(Stage::Digits),
+            _ => {
+                if self.tables == 0 {
+                    return self.at_stage(Stage::End);
+                }
+                self.at_stage(Stage::Length)
+            }
+        }
+    }
+
+    // One number more goes to its word of the record.
     fn with_value(mut self, value: u64) -> Line {
         let next = self.next;
         if calls::CALL_WORDS <= next {
@@ -194,14 +182,11 @@ impl Line {
         if next + 1 < self.end {
             return self;
         }
-        if self.tables == 0 {
-            return self.at_stage(Stage::End);
-        }
-        self.at_stage(Stage::Length)
+        self.past_numbers()
     }
 
     // The line with one number more, where one may come.
-    fn with_number(mut self, token: Token, entries: &mut [u32; 1297]) -> Line {
+    fn with_number(mut self, token: Token, entries: &mut [u32; 34007]) -> Line {
         let stage = self.stage;
         let value = token.value;
         if !token.is_number() {
@@ -220,12 +205,42 @@ impl Line {
         }
     }
 
+    // Whether the next byte is a digit of a strike.
+    pub fn takes_digits(self) -> bool {
+        let stage = self.stage;
+        match stage {
+            Stage::Digits => true,
+            _ => false,
+        }
+    }
+
+    // The line with one digit more of a strike.
+    pub fn with_digit(mut self, digit: u8, entries: &mut [u32; 34007]) -> Line {
+        let value = hex::value_of(digit);
+        if hex::BASE <= value {
+            return Line::unreadable();
+        }
+        let count = self.record[LENGTH];
+        self.record[LENGTH] = hex::stored(count, value, entries);
+        self
+    }
+
+    // The digits are whole where they are bytes, at least one.
+    fn with_digits(self) -> Line {
+        let count = self.record[LENGTH];
+        if count == 0 || count % 2 != 0 {
+            return Line::unreadable();
+        }
+        self.at_stage(Stage::End)
+    }
+
     // The line with one word more.
-    pub fn with_token(self, token: Token, entries: &mut [u32; 1297]) -> Line {
+    pub fn with_token(self, token: Token, entries: &mut [u32; 34007]) -> Line {
         let stage = self.stage;
         match stage {
             Stage::Start => command::of_command(token),
             Stage::Space => command::of_space(token),
+            Stage::Digits => self.with_digits(),
             Stage::End => Line::unreadable(),
             Stage::Unreadable => self,
             _ => self.with_number(token, entries),

@@ -1,12 +1,15 @@
-// Replays a script: one call or one pooling a line on standard input, and for each its answer, a line on standard output.
+// Replays a script: one call, pooling or strike a line on standard input, and for each its answer, a line on standard output.
 ghost use Rattle.session.specs.Served.{Valid};
+use form::ENTRIES;
 use libc::STDIN_FILENO;
-use line::ENTRIES;
 use reader::Reader;
 use session::Session;
 
 mod answer;
+mod beside;
 mod command;
+mod form;
+mod hex;
 mod line;
 mod print;
 mod reader;
@@ -20,7 +23,7 @@ pub struct Played {
 }
 
 // Plays a piece of the script: each line that ends in it is answered.
-fn play(played: Played, piece: &[u8], entries: &mut [u32; 1297]) -> Played
+fn play(played: Played, piece: &[u8], entries: &mut [u32; 34007]) -> Played
     requires { ⌜ Valid (played .session) ⌝ }
     ensures { λ r. ⌜ Valid (r .session) ⌝ }
 {
@@ -46,7 +49,7 @@ fn play(played: Played, piece: &[u8], entries: &mut [u32; 1297]) -> Played
 
 // Plays the whole script, a piece at a time. A proved loop has to end, and nothing says that a script does: so the loop counts
 // its turns down, from a number that no run uses up.
-fn play_all(played: Played, entries: &mut [u32; 1297]) -> Played
+fn play_all(played: Played, entries: &mut [u32; 34007]) -> Played
     requires { ⌜ Valid (played .session) ⌝ }
     ensures { λ r. ⌜ Valid (r .session) ⌝ }
 {

@@ -1,7 +1,6 @@
 // Answers as lines of text on standard output.
-ghost use Prim.Native.Nat.{_+_, _*_, _≤_};
+ghost use Prim.Native.Nat.{_+_, _≤_};
 ghost use lib.ListN.{length};
-ghost use Rattle.cie.specs.Spacing.{mostRows};
 ghost use Rattle.io.specs.Counts.{Counts};
 use causes::Cause;
 use cie::Chromaticity;
@@ -16,7 +15,7 @@ use tallies::Tallies;
 use trials::TrialAnswer;
 
 // A space and a number.
-fn put_field(out: &mut [u8], at: usize, n: u32) -> usize
+pub fn put_field(out: &mut [u8], at: usize, n: u32) -> usize
     requires { ⌜ at + 11 ≤ length (now out) ⌝ }
     ensures { λ r. ⌜ r ≤ at + 11 ⌝ }
 {
@@ -186,7 +185,7 @@ fn put_answer(out: &mut [u8], answer: Answer) -> usize
 }
 
 // The line end: how many bytes the line has with it.
-fn put_end(out: &mut [u8], at: usize) -> usize
+pub fn put_end(out: &mut [u8], at: usize) -> usize
     requires { ⌜ at + 1 ≤ length (now out) ⌝ }
     ensures { λ r. ⌜ Counts r (now (out .exit)) ⌝ }
 {
@@ -196,39 +195,6 @@ fn put_end(out: &mut [u8], at: usize) -> usize
 pub fn print(answer: Answer) {
     let mut out = [0u8; 272];
     let at = put_answer(&mut out, answer);
-    let n = put_end(&mut out, at);
-    io::write_all(STDOUT_FILENO, &out[..n]);
-}
-
-// Readings, each after a space.
-fn put_fields(out: &mut [u8], at: usize, readings: &[u16]) -> usize
-    requires { ⌜ at + 11 * length (now readings) ≤ length (now out) ⌝ }
-    ensures { λ r. ⌜ r ≤ at + 11 * length (now (readings .entry)) ⌝ }
-{
-    let mut end = at;
-    let mut i = 0;
-    while i < readings.len() {
-        end = put_field(out, end, readings[i] as u32);
-        i += 1;
-    }
-    end
-}
-
-// A spectrum without its line end: how many readings, then each.
-fn put_spectrum(out: &mut [u8], readings: &[u16]) -> usize
-    requires { ⌜ (length (now readings) ≤ mostRows) × (910 ≤ length (now out)) ⌝ }
-    ensures { λ r. ⌜ r ≤ 910 ⌝ }
-{
-    let named = text::put(out, 0, b"spectrum");
-    let counted = put_field(out, named, readings.len() as u32);
-    put_fields(out, counted, readings)
-}
-
-pub fn print_spectrum(readings: &[u16])
-    requires { ⌜ length (now readings) ≤ mostRows ⌝ }
-{
-    let mut out = [0u8; 911];
-    let at = put_spectrum(&mut out, readings);
     let n = put_end(&mut out, at);
     io::write_all(STDOUT_FILENO, &out[..n]);
 }

@@ -19,13 +19,20 @@ impl Reader {
     }
 
     // One byte more of the line, which is no line feed.
-    pub fn with_byte(self, byte: u8, entries: &mut [u32; 1297]) -> Reader {
+    pub fn with_byte(self, byte: u8, entries: &mut [u32; 34007]) -> Reader {
         let line = self.line;
         let token = self.token;
         if byte == b' ' {
             return Reader {
                 line: line.with_token(token, entries),
                 token: Token::new(),
+                begun: true,
+            };
+        }
+        if line.takes_digits() {
+            return Reader {
+                line: line.with_digit(byte, entries),
+                token: token,
                 begun: true,
             };
         }
@@ -37,7 +44,7 @@ impl Reader {
     }
 
     // The line at its end; an empty one is as it began.
-    pub fn ended(self, entries: &mut [u32; 1297]) -> Line {
+    pub fn ended(self, entries: &mut [u32; 34007]) -> Line {
         let line = self.line;
         let token = self.token;
         if !self.begun {

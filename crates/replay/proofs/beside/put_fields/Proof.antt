@@ -1,11 +1,11 @@
--- `replay::print::put_fields` meets its contract: each field leaves room for those that are left. Assumes nothing.
+-- `replay::beside::put_fields` meets its contract: each field leaves room for those that are left. Assumes nothing.
 use mathlib.Core.Path.{_≡_, refl, _∙_}
 use Prim.Native.Nat.{_+_, _*_, _-_, _≤_}
 use native.Mathlib.Omega.{arith}
 use borrow.Author.Needs.{needs}
 use lib.ListN.{length}
-use Rattle.replay.proofs.print.put_fields.Statement.{statement}
-use Rattle.replay.proofs.print.put_fields.Tie as tie
+use Rattle.replay.proofs.beside.put_fields.Statement.{statement}
+use Rattle.replay.proofs.beside.put_fields.Tie as tie
 
 abbrev Inv-loop : tie.InvT-loop
 Inv-loop out₀ at readings end₀ i₀ out end i = (i ≤ length readings) × (length out ≡ length out₀) × (end ≤ at + 11 * i)

@@ -1,0 +1,9 @@
+pub mod Examples
+pub mod Remaining
+pub mod Moves
+pub mod Entries
+pub mod Without
+pub mod Kept
+pub mod StruckOut
+pub mod Outcomes
+pub mod Theorems
