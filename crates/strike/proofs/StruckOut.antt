@@ -33,60 +33,74 @@ module _ (rows : ℕ) (s : List ℕ) (h : Shades rows (numbersOf s) (readingsOf 
       remain-around 1 0 i ns ns (sym (one-mul (length ns))) (h .rises) inside ∙ rw (one-mul i, add-one i) in
       rw (numbers, remain-around rows 0 i ns (readingsOf rows s) (h .long) (h .rises) inside)
 
--- what the moves and stores leave of a book s; n and i are its count and the place
+-- the shade at the place i of a book s of n shades
 module _ (rows : ℕ) (fits : bodyLength rows < 65536) (s : List ℕ) (bytes : AllBelow 256 s) (book : isBook rows s ≡ true)
     (n i : ℕ) (count : n ≡ countOf s) (inside : i < n) where
-  pub struck-book : {d₁ d₂ d₃ d₄ : List ℕ}
-      → d₁ ≡ take (bodiesAt n + bodyLength rows * i) s ++ drop (bodiesAt n + bodyLength rows * i + bodyLength rows) s ++ replicate (bodyLength rows) 0
-      → d₂ ≡ take (bodiesAt i) d₁ ++ drop (bodiesAt i + entryLength) d₁ ++ replicate entryLength 0
-      → d₃ ≡ sets d₂ countPlace (le16 (n - 1))
-      → d₄ ≡ sets d₃ headLength (contentsOf rows (bodiesAt (n - 1)) (words d₃ headLength entryLength (n - 1)))
-      → d₄ ≡ bookWithout rows (getD (numbersOf s) i 0) s ++ replicate (bodyLength rows + entryLength) 0
-  struck-book e₁ e₂ e₃ e₄ =
-      let ns : List ℕ = numbersOf s in
-      let rs : List ℕ = readingsOf rows s in
-      let h = book-shades rows s bytes book in
-      let all : length ns ≡ n = length-numbersOf s ∙ sym count in
-      let within : rows * i + rows ≤ length rs = omega (arith, readings-within rows i n inside, h .long, ap (λ (k : ℕ). rows * k) all) in
-      let rest : drop rows (drop (rows * i) rs) ≡ drop (rows * i + rows) rs = drop-drop rows (rows * i) rs in
-      let thirds : rs ≡ take (rows * i) rs ++ (take rows (drop (rows * i) rs) ++ drop (rows * i + rows) rs) =
-      sym (ap (λ (l : List ℕ). take (rows * i) rs ++ (take rows (drop (rows * i) rs) ++ l)) (sym rest)
-      ∙ ap (λ (l : List ℕ). take (rows * i) rs ++ l) (take-append-drop rows (drop (rows * i) rs)) ∙ take-append-drop (rows * i) rs) in
-      let whole : s ≡ bookOf rows (take i ns ++ getD ns i 0 ∷ drop (suc i) ns) (take (rows * i) rs ++ (take rows (drop (rows * i) rs) ++ drop (rows * i + rows) rs)) =
-      book-of-shades rows s bytes book ∙ ap (λ (l : List ℕ). bookOf rows l rs) (split-at ns i 0 (omega arith))
-      ∙ ap (λ (l : List ℕ). bookOf rows (take i ns ++ getD ns i 0 ∷ drop (suc i) ns) l) thirds in
-      closing rows fits (take i ns) (getD ns i 0) (drop (suc i) ns) (take (rows * i) rs) (take rows (drop (rows * i) rs)) (drop (rows * i + rows) rs)
-      (below-take {m = 65536} (omega arith) i ns (h .small)) (λ j. rw (getD-drop (suc i) ns j 0) (h .small (suc i + j)))
-      n i (length-take-le i ns (omega arith)) (omega (arith, length-drop (suc i) ns))
-      (length-take-le (rows * i) rs (omega arith)) (length-take-le rows (drop (rows * i) rs) (omega (arith, length-drop (rows * i) rs))) whole e₁ e₂ e₃ e₄
-      ∙ ap (λ (l : List ℕ). l ++ replicate (bodyLength rows + entryLength) 0) (sym (around rows s h i (omega arith)))
+  sound : Shades rows (numbersOf s) (readingsOf rows s)
+  sound = book-shades rows s bytes book
 
-  -- the book that is left is shorter by a body and an entry, and the buffer's end is zeros
+  all : length (numbersOf s) ≡ n
+  all = length-numbersOf s ∙ sym count
+
+  within : rows * i + rows ≤ length (readingsOf rows s)
+  within = omega (arith, readings-within rows i n inside, sound .long, ap (λ (k : ℕ). rows * k) all)
+
+  -- the book that is left is shorter by a body and an entry
   pub shorter : length s ≡ length (bookWithout rows (getD (numbersOf s) i 0) s) + (bodyLength rows + entryLength)
   shorter =
       let ns : List ℕ = numbersOf s in
       let rs : List ℕ = readingsOf rows s in
-      let h = book-shades rows s bytes book in
-      let all : length ns ≡ n = length-numbersOf s ∙ sym count in
       let xs : List ℕ = take i ns ++ drop (suc i) ns in
       let qs : List ℕ = take (rows * i) rs ++ drop (rows * i + rows) rs in
-      let within : rows * i + rows ≤ length rs = omega (arith, readings-within rows i n inside, h .long, ap (λ (k : ℕ). rows * k) all) in
-      let numbers : length xs + 1 ≡ n = omega (arith, length-append (take i ns) (drop (suc i) ns), length-take-le i ns (omega arith), length-drop (suc i) ns) in
+      let numbers : length xs + 1 ≡ n =
+      omega (arith, length-append (take i ns) (drop (suc i) ns), length-take-le i ns (omega (arith, all)), length-drop (suc i) ns, all) in
       let readings : length qs + rows ≡ length rs =
-      omega (arith, length-append (take (rows * i) rs) (drop (rows * i + rows) rs), length-take-le (rows * i) rs (omega arith), length-drop (rows * i + rows) rs) in
-      omega (arith, ap length (book-of-shades rows s bytes book), length-bookOf rows ns rs, ap length (around rows s h i (omega arith)), length-bookOf rows xs qs)
-
-  pub freed : bookWithout rows (getD (numbersOf s) i 0) s ++ replicate (bodyLength rows + entryLength) 0
-      ≡ closedUp (bookWithout rows (getD (numbersOf s) i 0) s) (length s)
-  freed =
-      let left : List ℕ = bookWithout rows (getD (numbersOf s) i 0) s in
-      let rest : bodyLength rows + entryLength ≡ length s - length left = omega (arith, shorter) in
-      ap (λ (k : ℕ). left ++ replicate k 0) rest
+      omega (
+        arith,
+        length-append (take (rows * i) rs) (drop (rows * i + rows) rs),
+        length-take-le (rows * i) rs (omega (arith, within)),
+        length-drop (rows * i + rows) rs,
+        within,
+      ) in
+      omega (
+        arith,
+        ap length (book-of-shades rows s bytes book),
+        length-bookOf rows ns rs,
+        all,
+        ap length (around rows s sound i (omega (arith, all))),
+        length-bookOf rows xs qs,
+      )
 
   pub total-left : total rows (n - 1) ≡ length (bookWithout rows (getD (numbersOf s) i 0) s)
   total-left =
       let more : n ≡ n - 1 + 1 = omega arith in
       omega (arith, shorter, rules rows s book .whole, ap (total rows) (sym count ∙ more))
+
+  -- what the moves and stores leave
+  pub struck-out : {d₁ d₂ d₃ d₄ : List ℕ}
+      → d₁ ≡ take (bodiesAt n + bodyLength rows * i) s ++ drop (bodiesAt n + bodyLength rows * i + bodyLength rows) s ++ replicate (bodyLength rows) 0
+      → d₂ ≡ take (bodiesAt i) d₁ ++ drop (bodiesAt i + entryLength) d₁ ++ replicate entryLength 0
+      → d₃ ≡ sets d₂ countPlace (le16 (n - 1))
+      → d₄ ≡ sets d₃ headLength (contentsOf rows (bodiesAt (n - 1)) (words d₃ headLength entryLength (n - 1)))
+      → d₄ ≡ closedUp (bookWithout rows (getD (numbersOf s) i 0) s) (length s)
+  struck-out e₁ e₂ e₃ e₄ =
+      let ns : List ℕ = numbersOf s in
+      let rs : List ℕ = readingsOf rows s in
+      let rest : drop rows (drop (rows * i) rs) ≡ drop (rows * i + rows) rs = drop-drop rows (rows * i) rs in
+      let thirds : rs ≡ take (rows * i) rs ++ (take rows (drop (rows * i) rs) ++ drop (rows * i + rows) rs) =
+      sym (ap (λ (l : List ℕ). take (rows * i) rs ++ (take rows (drop (rows * i) rs) ++ l)) (sym rest)
+      ∙ ap (λ (l : List ℕ). take (rows * i) rs ++ l) (take-append-drop rows (drop (rows * i) rs)) ∙ take-append-drop (rows * i) rs) in
+      let whole : s ≡ bookOf rows (take i ns ++ getD ns i 0 ∷ drop (suc i) ns) (take (rows * i) rs ++ (take rows (drop (rows * i) rs) ++ drop (rows * i + rows) rs)) =
+      book-of-shades rows s bytes book ∙ ap (λ (l : List ℕ). bookOf rows l rs) (split-at ns i 0 (omega (arith, all)))
+      ∙ ap (λ (l : List ℕ). bookOf rows (take i ns ++ getD ns i 0 ∷ drop (suc i) ns) l) thirds in
+      let left : List ℕ = bookWithout rows (getD ns i 0) s in
+      let freed : bodyLength rows + entryLength ≡ length s - length left = omega (arith, shorter) in
+      closing rows fits (take i ns) (getD ns i 0) (drop (suc i) ns) (take (rows * i) rs) (take rows (drop (rows * i) rs)) (drop (rows * i + rows) rs)
+      (below-take {m = 65536} (omega arith) i ns (sound .small)) (λ j. rw (getD-drop (suc i) ns j 0) (sound .small (suc i + j)))
+      n i (length-take-le i ns (omega (arith, all))) (omega (arith, length-drop (suc i) ns, all)) (length-take-le (rows * i) rs (omega (arith, within)))
+      (length-take-le rows (drop (rows * i) rs) (omega (arith, length-drop (rows * i) rs, within))) whole e₁ e₂ e₃ e₄
+      ∙ ap (λ (l : List ℕ). l ++ replicate (bodyLength rows + entryLength) 0) (sym (around rows s sound i (omega (arith, all))))
+      ∙ ap (λ (k : ℕ). left ++ replicate k 0) freed
 
 -- the same of a number that the book has
 pub shorter-by : (rows : ℕ) → bodyLength rows < 65536 → (s : List ℕ) → AllBelow 256 s → isBook rows s ≡ true → (number : ℕ) → isIn number (numbersOf s) ≡ true

@@ -10,7 +10,7 @@ use Rattle.endian.specs.Bytes.{AllBelow}
 use Rattle.book.specs.Book.{bodyLength, mostShades, bodiesAt, total, countOf}
 use Rattle.book.proofs.Sizes.{total-small, body-within}
 use Rattle.book.proofs.Rules.{rules}
-use Rattle.strike.proofs.StruckOut.{struck-book, freed}
+use Rattle.strike.proofs.StruckOut.{struck-out}
 use Rattle.strike.proofs.parts.take_out.Statement.{statement}
 use Rattle.strike.proofs.parts.take_out.Tie as tie
 
@@ -70,9 +70,8 @@ returns c =
     let fits : bodyLength rows < 65536 = omega (arith, s .pre .0) in
     let out = ap (λ (b : ℕ). take (bodiesAt (s .args .n) + b * s .args .i) d ++ drop (bodiesAt (s .args .n) + b * s .args .i + b) d ++ replicate b 0)
     (long .body-length .ensures) in
-    struck-book rows fits d bytes (s .pre .1) (s .args .n) (s .args .i) (s .pre .2) (s .pre .3)
+    struck-out rows fits d bytes (s .pre .1) (s .args .n) (s .args .i) (s .pre .2) (s .pre .3)
     (body .close-up .ensures ∙ out) (entry .close-up2 .ensures) (count .write16 .ensures) (entries .put-entries .ensures)
-    ∙ freed rows fits d bytes (s .pre .1) (s .args .n) (s .args .i) (s .pre .2) (s .pre .3)
 
 pub take-out-spec : {M : Type 1} → statement M
 take-out-spec =
