@@ -4,3 +4,4 @@ pub mod Rules
 pub mod Outcomes
 pub mod Whole
 pub mod Theorems
+pub mod Rising

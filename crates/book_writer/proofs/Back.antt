@@ -5,17 +5,17 @@ use Prim.Native.Nat.{ℕ, zero, suc, _+_, _*_, _^_, _≤_, _<_}
 use native.Mathlib.Omega.{arith}
 use native.Mathlib.Nat.{add-assoc, add-zero, mul-le-mul}
 use mathlib.Core.List.{List, [], _∷_, _++_, append-assoc, append-nil}
-use lib.ListN.{length, getD, length-append}
+use lib.ListN.{length, length-append}
 use lib.Dec.{ltb}
-use borrow.Author.Tests.{eq-eqb, ne-eqb, ltb-true}
+use borrow.Author.Tests.{eq-eqb}
 use Rattle.cie.specs.Scales.{anyAbove, readerLimit}
 use Rattle.endian.specs.Bytes.{littleEndian, le16, le32, at16, at32, words, bytesOf, AllBelow}
 use Rattle.endian.proofs.Parts.{tail-below, numberAt-behind, numberAt-front}
 use Rattle.endian.proofs.Words.{words-behind, words-bytesOf}
 use Rattle.book.specs.Book.{magic, headLength, entryLength, bodyLength, mostShades, bodiesAt, total, rising, entryOf, contentsOf, bookOf}
-use Rattle.book.specs.Book.{startsWith, entryOk, entriesOk, countOf, numbersOf, readingsIn, readingsOf, isBook, indexOf}
+use Rattle.book.specs.Book.{startsWith, entryOk, entriesOk, countOf, numbersOf, readingsIn, readingsOf, isBook}
 use Rattle.book_writer.proofs.Stored.{length-bookOf, length-contentsOf}
-use Rattle.book.proofs.Rules.{and-left, and-right, last-rule}
+use Rattle.book.proofs.Rules.{last-rule}
 
 -- entries behind a front
 module _ (rows : ℕ) (p s : List ℕ) where
@@ -155,21 +155,3 @@ module _ (rows : ℕ) (ns rs : List ℕ) (few : length ns ≤ mostShades) where
       ap (readingsIn rows (bookOf rows ns rs)) (sym count-back) ∙ readings-of br long in
       sym (last-rule rows (bookOf rows ns rs) (sym count-back) (omega arith) begins few whole (entries-of b fits ∙ rises))
       ∙ ap (λ (l : List ℕ). not (anyAbove readerLimit l)) same ∙ ap not fair
-
--- numbers that rise are each found at their own place
-pub rising-above : (before : ℕ) (xs : List ℕ) (i : ℕ) → rising before xs ≡ true → i < length xs → before < getD xs i 0
-unfolding rising
-rising-above before [] i h k = absurd (omega arith)
-rising-above before (x ∷ xs) zero h k = ltb-true before x (and-left (ltb before x) (rising x xs) h)
-rising-above before (x ∷ xs) (suc i) h k =
-    let rest = and-right (ltb before x) (rising x xs) h in
-    omega (arith, ltb-true before x (and-left (ltb before x) (rising x xs) h), rising-above x xs i rest (omega arith))
-
-pub own-place : (before : ℕ) (xs : List ℕ) (i : ℕ) → rising before xs ≡ true → i < length xs → indexOf (getD xs i 0) xs ≡ i
-unfolding rising indexOf
-own-place before [] i h k = absurd (omega arith)
-own-place before (x ∷ xs) zero h k = rw (eq-eqb x x refl)
-own-place before (x ∷ xs) (suc i) h k =
-    let rest = and-right (ltb before x) (rising x xs) h in
-    let above : x < getD xs i 0 = rising-above x xs i rest (omega arith) in
-    rw (ne-eqb x (getD xs i 0) (λ e. omega arith)) (ap suc (own-place x xs i rest (omega arith)))

@@ -10,7 +10,8 @@ use Rattle.cie.specs.Scales.{anyAbove, readerLimit}
 use Rattle.cie.proofs.Scales.{below}
 use Rattle.endian.specs.Bytes.{AllBelow}
 use Rattle.book.specs.Book.{bodyLength, mostShades, rising, bookOf, numbersOf, readingsOf, isBook, indexOf}
-use Rattle.book_writer.proofs.Back.{numbers-of, readings-of, is-book, own-place}
+use Rattle.book.proofs.Rising.{own-place}
+use Rattle.book_writer.proofs.Back.{numbers-of, readings-of, is-book}
 
 pub record Shades (rows : ℕ) (ns rs : List ℕ) : Type 0 where
   pub long : length rs ≡ rows * length ns

@@ -1,7 +1,7 @@
 -- Document 01, "Causes", and the errors of document 02: the number of each cause. Assumes nothing.
 use Prim.Native.Nat.{ℕ}
 use Rattle.causes.specs.declared.Cause.{Cause}
-use Rattle.causes.specs.declared.Cause.the-variants.{ShortTable, OverBright, OffScaleCondition, DarkWhite, LopsidedWhite, NoConditions, NoStandard, NoTolerance, ToleranceOffScale, SessionFull, NotABook, NoSuchShade, TooManyShades, OutOfOrder, ShortBuffer, NoSuchLight, UnknownSpacing, NoSuchTable, SpotCount}
+use Rattle.causes.specs.declared.Cause.the-variants.{ShortTable, OverBright, OffScaleCondition, DarkWhite, LopsidedWhite, NoConditions, NoStandard, NoTolerance, ToleranceOffScale, SessionFull, NotABook, NoSuchShade, TooManyShades, OutOfOrder, ShortBuffer, NoSuchLight, UnknownSpacing, NoSuchTable, SpotCount, EmptyLook}
 
 abbrev pub causeNumber : Cause → ℕ
 causeNumber ShortTable = 1
@@ -23,6 +23,7 @@ causeNumber NoSuchLight = 16
 causeNumber UnknownSpacing = 17
 causeNumber NoSuchTable = 18
 causeNumber SpotCount = 19
+causeNumber EmptyLook = 20
 
 -- an answer in the paper's numbers and values: what is accepted, or the number of a cause
 pub data Numbered (A : Type 0) : Type 0 where

@@ -22,6 +22,7 @@ pub enum Cause {
     UnknownSpacing,
     NoSuchTable,
     SpotCount,
+    EmptyLook,
 }
 
 // What checks in an order find: nothing, or the cause of the first that holds.
@@ -54,5 +55,6 @@ pub fn number(cause: Cause) -> u32
         Cause::UnknownSpacing => 17,
         Cause::NoSuchTable => 18,
         Cause::SpotCount => 19,
+        Cause::EmptyLook => 20,
     }
 }

@@ -8,6 +8,7 @@ pub mod Across
 pub mod Ordered
 pub mod Whites
 pub mod Sizes
+pub mod Differences
 pub mod Rule
 pub mod RuleAxes
 pub mod RuleCielab

@@ -7,7 +7,7 @@ use native.Mathlib.Omega.{arith}
 use native.Mathlib.Numerals.{add-one}
 use borrow.Author.Tests.{ltb-true, ltb-false, lt-ltb, le-ltb}
 use lib.Dec.{ltb}
-use lib.ListN.{length, getD, drop}
+use lib.ListN.{length, getD, take, drop, take-append-drop}
 use lib.Seq.{drop-cons, drop-length}
 use Rattle.cie.specs.Scales.{anyAbove, largerOf, Largest}
 
@@ -49,6 +49,12 @@ unfolding anyAbove
 above-append limit [] ys = refl
 above-append limit (x ∷ xs) ys =
     ap (λ (t : Bool). ltb limit x || t) (above-append limit xs ys) ∙ sym (or-assoc (ltb limit x) (anyAbove limit xs) (anyAbove limit ys))
+
+-- where no entry is above the limit, none of the first k is, and none after them
+pub below-parts : (limit k : ℕ) (xs : List ℕ) → anyAbove limit xs ≡ false → (anyAbove limit (take k xs) ≡ false) × (anyAbove limit (drop k xs) ≡ false)
+below-parts limit k xs h =
+    let parts = sym (above-append limit (take k xs) (drop k xs)) ∙ ap (anyAbove limit) (take-append-drop k xs) ∙ h in
+    (or-left (anyAbove limit (take k xs)) (anyAbove limit (drop k xs)) parts, or-right (anyAbove limit (take k xs)) (anyAbove limit (drop k xs)) parts)
 
 -- the larger of two decides for both
 larger-decides : (limit a b : ℕ) (t : Bool) → (ltb limit (largerOf a b) || t) ≡ (ltb limit a || (ltb limit b || t))

@@ -1,7 +1,8 @@
 // From sums to a colour: its steps, lightness, coordinates, ratios and chromas, and the differences of two colours.
 ghost use mathlib.Core.Path.{_≡_};
+ghost use Prim.Native.Nat.{_*_, _≤_, _<_};
 ghost use Rattle.cie.specs.Sums.{White, AtMostTwice};
-ghost use Rattle.cie.specs.Colour.{colourOf};
+ghost use Rattle.cie.specs.Colour.{lightnessAt, colourOf};
 ghost use Rattle.colour.specs.White.{whitePointOf};
 ghost use Rattle.colour.specs.Coordinates.{coordinatesIn};
 use axes::Plane;
@@ -22,6 +23,14 @@ pub struct Coordinates {
     pub b: i32,
     pub u: i32,
     pub v: i32,
+}
+
+// L of a sum of Y beside the white's, alone.
+pub fn lightness(y: u64, yn: u64) -> u32
+    requires { ⌜ (0 < yn) × (y ≤ 2 * yn) ⌝ }
+    ensures { λ r. ⌜ r ≡ lightnessAt 1 y yn ⌝ }
+{
+    steps::lightness_of(y, yn).l
 }
 
 // The coordinates of measured sums beside their white.

@@ -58,14 +58,14 @@ dot-more rs ws i h k = rw (add-one, drop-cons rs i 0, drop-cons ws i 0)
 product : {rs ws : List ℕ} → Spectrum rs → Weights ws → (i : ℕ) → getD rs i 0 * getD ws i 0 ≤ rowLimit
 product {rs} {ws} r w i = mul-le-mul (below readerLimit rs i (r .scale)) (below (illuminantLimit * columnLimit) ws i (w .scale))
 
-summed-none : (rs ws : List ℕ) → Summed rs ws 0 0
+pub summed-none : (rs ws : List ℕ) → Summed rs ws 0 0
 summed-none rs ws = record { upto = omega arith; left = omega arith }
 
 module _ {rs ws : List ℕ} {sum i : ℕ} (r : Spectrum rs) (w : Weights ws) (s : Summed rs ws sum i) where
-  summed-fits : i < length rs → sum + getD rs i 0 * getD ws i 0 < 2 ^ 64
+  pub summed-fits : i < length rs → sum + getD rs i 0 * getD ws i 0 < 2 ^ 64
   summed-fits h = omega (arith, product r w i)
 
-  summed-more : i < length rs → Summed rs ws (sum + getD rs i 0 * getD ws i 0) (i + 1)
+  pub summed-more : i < length rs → Summed rs ws (sum + getD rs i 0 * getD ws i 0) (i + 1)
   summed-more h =
       let k : i < length ws = omega (arith, r .few, w .length-is) in
       record {
@@ -73,7 +73,7 @@ module _ {rs ws : List ℕ} {sum i : ℕ} (r : Spectrum rs) (w : Weights ws) (s 
         left = omega (arith, dot-more rs ws i h k, s .left);
       }
 
-  summed-all : i ≡ length rs → sum ≡ dot rs ws
+  pub summed-all : i ≡ length rs → sum ≡ dot rs ws
   unfolding dot
   summed-all e =
       let z : dot (drop i rs) (drop i ws) ≡ 0 = rw (e, drop-length) in

@@ -1,7 +1,7 @@
 -- Laws of measuring: what an answer says of its checks, and that measured sums are ready for their colour, which is sized. Assumes nothing.
 use mathlib.Core.Path.{_≡_, sym, _∙_, ap, subst}
 use mathlib.Core.List.{List}
-use Prim.Native.Nat.{ℕ, _≤_}
+use Prim.Native.Nat.{ℕ, _*_, _≤_}
 use native.Mathlib.Omega.{arith}
 use Rattle.causes.specs.declared.Cause.{Cause}
 use Rattle.causes.specs.declared.Checked.the-variants.{Clear, Because}
@@ -21,7 +21,7 @@ use Rattle.colour.specs.White.{whitePointOf}
 use Rattle.conditions.specs.declared.Conditions.{Conditions}
 use Rattle.conditions.specs.declared.measure.Measured.{Measured}
 use Rattle.conditions.specs.declared.measure.Measured.the-variants.{Whole, Refused}
-use Rattle.conditions.specs.Weights.{dots, Spectrum}
+use Rattle.conditions.specs.Weights.{dot, dots, whiteReadings, Spectrum, Weights}
 use Rattle.conditions.specs.Checks.{spectrumChecks}
 use Rattle.conditions.specs.Conditions.{Sound}
 use Rattle.conditions.specs.Measure.{measureAnswer, measuredBy, colourUnder}
@@ -37,6 +37,10 @@ spectrum-of limit rows readings h k e =
       scale = above-wider limit readerLimit readings h (clear-at _ e 1);
     }
 
+-- the sum of a spectrum by a column is at most twice that of the white
+pub at-most-white : {rs ws : List ℕ} {n : ℕ} → Spectrum rs → Weights ws → dot whiteReadings ws ≤ n → dot rs ws ≤ 2 * n
+at-most-white {rs} {ws} r w h = omega (arith, twice mostRows rs ws (omega (arith, w .length-is)) (r .scale))
+
 -- what a colour is found of: the white's own point, an accepted white, and sums at most twice its own
 abbrev pub Ready : Conditions → Sums → Type 0
 Ready c sums = (c .white ≡ whitePointOf (c .white .sums)) × White (c .white .sums) × AtMostTwice (c .white .sums) sums
@@ -45,9 +49,9 @@ module _ {c : Conditions} (s : Sound c) {readings : List ℕ} (r : Spectrum read
   lit : AtMostTwice (c .white .sums) (dots (c .x) (c .y) (c .z) readings)
   lit =
       record {
-        x = omega (arith, twice mostRows readings (c .x) (omega (arith, s .weights-x .length-is)) (r .scale), s .least-x);
-        y = omega (arith, twice mostRows readings (c .y) (omega (arith, s .weights-y .length-is)) (r .scale), s .least-y);
-        z = omega (arith, twice mostRows readings (c .z) (omega (arith, s .weights-z .length-is)) (r .scale), s .least-z);
+        x = at-most-white r (s .weights-x) (s .least-x);
+        y = at-most-white r (s .weights-y) (s .least-y);
+        z = at-most-white r (s .weights-z) (s .least-z);
       }
 
   pub sums-ready : {sums : Sums} → sums ≡ dots (c .x) (c .y) (c .z) readings → Ready c sums

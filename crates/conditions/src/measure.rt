@@ -1,10 +1,11 @@
 // Measuring a spectrum under conditions.
 ghost use mathlib.Core.Path.{_≡_};
-ghost use Prim.Native.Nat.{_≤_};
+ghost use Prim.Native.Nat.{_≤_, _<_};
 ghost use lib.ListN.{length};
 ghost use Rattle.cie.specs.Spacing.{mostRows};
 ghost use Rattle.cie.specs.Scales.{readerLimit};
-ghost use Rattle.conditions.specs.Weights.{Spectrum, Weights};
+ghost use Rattle.cie.specs.Colour.{lightnessAt};
+ghost use Rattle.conditions.specs.Weights.{dot, whiteReadings, Spectrum, Weights};
 ghost use Rattle.conditions.specs.Conditions.{conditionsBy, Sound};
 ghost use Rattle.conditions.specs.Measure.{measureAnswer, measuredBy, causeIn, colourUnder};
 use crate::weights;
@@ -62,4 +63,12 @@ pub fn colour_by<'a>(
     ensures { λ r. ⌜ r ≡ colourUnder (conditionsBy (length (now (readings .entry))) (now (x .entry)) (now (y .entry)) (now (z .entry)) white) (now (readings .entry)) ⌝ }
 {
     colour::colour_of(weights::sums_of(readings, x, y, z), white)
+}
+
+// L of a spectrum by the weights of y and the white's Y alone.
+pub fn lightness_by(readings: &[u16], yn: u64, y: &[u64]) -> u32
+    requires { ⌜ Spectrum (now readings) × Weights (now y) × (dot whiteReadings (now y) ≤ yn) × (0 < yn) ⌝ }
+    ensures { λ r. ⌜ r ≡ lightnessAt 1 (dot (now (readings .entry)) (now (y .entry))) yn ⌝ }
+{
+    colour::lightness(weights::sum_of(readings, y), yn)
 }

@@ -3,7 +3,7 @@ ghost use mathlib.Core.Path.{_≡_};
 ghost use Prim.Native.Nat.{_+_, _≤_};
 ghost use lib.ListN.{length};
 ghost use Rattle.cie.specs.Spacing.{mostRows};
-ghost use Rattle.conditions.specs.Weights.{weightsOf, dots, whiteReadings, Spectrum, Weights, Begun};
+ghost use Rattle.conditions.specs.Weights.{weightsOf, dot, dots, whiteReadings, Spectrum, Weights, Begun};
 use cie::Sums;
 
 pub const WHITE_READING: u16 = 10000;
@@ -62,6 +62,20 @@ pub fn sums_of<'a>(readings: &[u16], x: &'a [u64], y: &'a [u64], z: &'a [u64]) -
         row = row + TURN;
     }
     with_rows(sums, row, readings.len() - row, readings, x, y, z)
+}
+
+// The sum of reading × weight over the readings' own rows, by one column.
+pub fn sum_of(readings: &[u16], ws: &[u64]) -> u64
+    requires { ⌜ Spectrum (now readings) × Weights (now ws) ⌝ }
+    ensures { λ r. ⌜ r ≡ dot (now (readings .entry)) (now (ws .entry)) ⌝ }
+{
+    let mut sum = 0;
+    let mut i = 0;
+    while i < readings.len() {
+        sum = sum + readings[i] as u64 * ws[i];
+        i = i + 1;
+    }
+    sum
 }
 
 // The sums with every reading that of the white.

@@ -2,32 +2,28 @@
 -- colour under the opened light is the paper's. Assumes nothing.
 use mathlib.Core.Path.{_≡_, refl, sym, ap, _∙_}
 use mathlib.Core.Bool.{true, false}
-use mathlib.Core.List.{List, [], _∷_, _++_, append-assoc}
-use Prim.Native.Nat.{ℕ, zero, suc, _+_, _*_, _≤_, _<_}
+use mathlib.Core.List.{List, [], _++_, append-assoc}
+use Prim.Native.Nat.{ℕ, _+_, _*_, _≤_, _<_}
 use native.Mathlib.Numerals.{add-one}
 use native.Mathlib.Omega.{arith}
-use lib.Dec.{ltb}
 use lib.IntN.{ℤ}
-use lib.ListN.{length, getD, take, drop, drop-of-length-le}
+use lib.ListN.{length, getD, drop, drop-of-length-le}
 use lib.Seq.{drop-cons, drop-drop}
 use Rattle.causes.proofs.Checks.{passes, ends}
 use Rattle.cie.specs.declared.Colour.{Colour}
-use Rattle.cie.specs.Spacing.{unknownSpacing, mostRows, rowsAt}
-use Rattle.cie.specs.Scales.{readerLimit, anyAbove}
+use Rattle.cie.specs.Spacing.{unknownSpacing, rowsAt}
 use Rattle.cie.specs.Sums.{whiteOf}
 use Rattle.cie.specs.Lights.{lightD65, lightTables}
 use Rattle.cie.specs.Colour.{colourOf}
-use Rattle.cie.proofs.Scales.{or-left, or-right}
 use Rattle.conditions.specs.declared.Conditions.{Conditions}
 use Rattle.conditions.specs.declared.Prepared.{Prepared}
-use Rattle.conditions.specs.Weights.{Spectrum}
 use Rattle.conditions.specs.Conditions.{conditionsOf, conditionsIn, preparedLight, Prepares}
 use Rattle.conditions.proofs.Dots.{sums-same}
 use Rattle.book.specs.Book.{readingsOf, isBook, spectrumOf}
-use Rattle.book.proofs.Rules.{rules}
+use Rattle.shades.specs.Shades.{shadeUnder}
 use Rattle.text.specs.Text.{decimal, signed, Put}
 use Rattle.text.proofs.Puts.{then, same}
-use Rattle.listing.specs.Listing.{listedSpacing, shadeColour, spaced, lineEnd, lineOf, linesOf, shadeLines, shadeUnder, header, refusal, listingOf}
+use Rattle.listing.specs.Listing.{listedSpacing, shadeColour, spaced, lineEnd, lineOf, linesOf, shadeLines, header, refusal, listingOf}
 
 -- a line, by the pieces that are put
 regroup : (s a b u v e : List ℕ) → s ++ (a ++ b) ++ (u ++ v) ++ e ≡ s ++ a ++ b ++ u ++ v ++ e
@@ -73,28 +69,6 @@ module _ (spacing : ℕ) where
       let t = lightTables lightD65 spacing in
       ap (λ (x : Conditions). shadeUnder x s i) e
       ∙ ap (colourOf (whiteOf t)) (sums-same t (spectrumOf (rowsAt spacing) (readingsOf (rowsAt spacing) s) i))
-
--- a part of fair readings is fair
-fair-drop : (j : ℕ) (xs : List ℕ) → anyAbove readerLimit xs ≡ false → anyAbove readerLimit (drop j xs) ≡ false
-unfolding anyAbove
-fair-drop zero xs h = h
-fair-drop (suc j) [] h = refl
-fair-drop (suc j) (x ∷ xs) h = fair-drop j xs (or-right (ltb readerLimit x) (anyAbove readerLimit xs) h)
-
-fair-take : (k : ℕ) (xs : List ℕ) → anyAbove readerLimit xs ≡ false → anyAbove readerLimit (take k xs) ≡ false
-unfolding anyAbove
-fair-take zero xs h = refl
-fair-take (suc k) [] h = refl
-fair-take (suc k) (x ∷ xs) h =
-    rw (or-left (ltb readerLimit x) (anyAbove readerLimit xs) h) (fair-take k xs (or-right (ltb readerLimit x) (anyAbove readerLimit xs) h))
-
--- the readings of a book's shade are a spectrum
-pub spectrum-fair : (rows : ℕ) (s : List ℕ) (i : ℕ) {r : List ℕ} → rows ≤ mostRows → isBook rows s ≡ true → length r ≡ rows →
-    r ≡ spectrumOf rows (readingsOf rows s) i → Spectrum r
-unfolding spectrumOf
-spectrum-fair rows s i h b l e =
-    let all = fair-drop (rows * i) (readingsOf rows s) (rules rows s b .fair) in
-    record { few = omega arith; scale = rw e (fair-take rows (drop (rows * i) (readingsOf rows s)) all) }
 
 -- the whole, by the rows that the first body length tells
 module _ (s : List ℕ) {n : ℕ} (told : n ≡ rowsAt (listedSpacing s)) where

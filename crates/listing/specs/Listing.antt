@@ -9,9 +9,7 @@ use Rattle.cie.specs.declared.Colour.{Colour}
 use Rattle.cie.specs.Spacing.{rowsAt, spacingTold}
 use Rattle.cie.specs.Lights.{lightD65, lightTables}
 use Rattle.cie.specs.Colour.{colourAt}
-use Rattle.conditions.specs.declared.Conditions.{Conditions}
-use Rattle.conditions.specs.Measure.{colourUnder}
-use Rattle.book.specs.Book.{isBook, numbersOf, firstBodyLength, readingsOf, spectrumOf}
+use Rattle.book.specs.Book.{isBook, numbersOf, firstBodyLength, readingsOf}
 use Rattle.text.specs.Text.{decimal, signed}
 
 -- Document 02: "The listing goes by the first body length.": the spacing that it tells. A book of no shades has none, and is one at each spacing.
@@ -42,10 +40,6 @@ linesOf spacing (k ∷ ks) readings =
 
 abbrev pub shadeLines : ℕ → List ℕ → List ℕ
 shadeLines spacing s = linesOf spacing (numbersOf s) (readingsOf (rowsAt spacing) s)
-
--- the colour of a book's i-th shade, from 0, under conditions
-abbrev pub shadeUnder : Conditions → List ℕ → ℕ → Colour
-shadeUnder c s i = colourUnder c (spectrumOf (c .rows) (readingsOf (c .rows) s) i)
 
 -- the longest line: two numbers of at most 10 digits, four signed ones of at most 11 characters, five spaces and a line feed
 abbrev pub lineRoom : ℕ

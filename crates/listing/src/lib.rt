@@ -5,18 +5,15 @@ use causes::Cause;
 use cie::Colour;
 use cie::spacing;
 use cie::tables::LIGHT_D65;
-use colour::white::WhitePoint;
-use conditions::measure;
 ghost use mathlib.Core.Path.{_≡_};
 ghost use mathlib.Core.Bool.{true, false};
 ghost use Prim.Native.Nat.{_+_, _*_, _≤_, _<_};
 ghost use lib.ListN.{length, getD};
 ghost use Rattle.cie.specs.Spacing.{unknownSpacing, rowsAt};
-ghost use Rattle.conditions.specs.Conditions.{conditionsBy, Sound};
 ghost use Rattle.book.specs.Book.{mostShades, countOf, numbersOf, isBook, Contents};
 ghost use Rattle.io.specs.Counts.{Counts};
 ghost use Rattle.text.specs.Text.{Put};
-ghost use Rattle.listing.specs.Listing.{lineOf, shadeUnder, shadeLines, lineRoom, refusal, listingOf};
+ghost use Rattle.listing.specs.Listing.{lineOf, shadeLines, lineRoom, refusal, listingOf};
 
 // The light of the listing.
 const LIGHT: u32 = LIGHT_D65;
@@ -29,23 +26,6 @@ fn put_refusal(out: &mut [u8], at: usize) -> usize
     let word = text::put(out, at, b"refused ");
     let number = text::put_number(out, word, causes::number(Cause::NotABook));
     text::put(out, number, b"\n")
-}
-
-// The colour of a book's i-th shade, from 0, with a place lent for each of its readings.
-fn shade_under<'a>(
-    book: &[u8],
-    i: usize,
-    places: &mut [u16],
-    white: WhitePoint,
-    x: &'a [u64],
-    y: &'a [u64],
-    z: &'a [u64],
-) -> Colour
-    requires { ⌜ Sound (conditionsBy (length (now places)) (now x) (now y) (now z) white) × (isBook (length (now places)) (now book) ≡ true) × (i < countOf (now book)) ⌝ }
-    ensures { λ r. ⌜ r ≡ shadeUnder (conditionsBy (length (now (places .entry))) (now (x .entry)) (now (y .entry)) (now (z .entry)) white) (now (book .entry)) i ⌝ }
-{
-    book::reader::spectrum_at(book, i, places);
-    measure::colour_by(places, white, x, y, z)
 }
 
 // The line of a book's i-th shade, from 0, which has a colour.
@@ -71,7 +51,7 @@ fn put_lines(spacing: u32, book: &[u8], out: &mut [u8], start: usize) -> usize
     let mut at = start;
     let mut i = 0;
     while i < n {
-        let colour = shade_under(
+        let colour = shades::colour_under(
             book,
             i,
             &mut readings[..rows],

@@ -1,30 +1,19 @@
 -- The shades of a book, and those that remain without one, are shades that make a book. Assumes nothing.
-use mathlib.Core.Path.{_≡_, refl, sym, ap, _∙_}
-use mathlib.Core.Bool.{true, false, _&&_}
-use Prim.Native.Nat.{ℕ, zero, suc, _+_, _*_}
+use mathlib.Core.Path.{_≡_, sym, ap, _∙_}
+use mathlib.Core.Bool.{true, false}
+use Prim.Native.Nat.{ℕ, _*_}
 use native.Mathlib.Omega.{arith}
 use mathlib.Core.List.{List}
-use lib.Dec.{ltb, eqb}
 use Rattle.cie.specs.Scales.{anyAbove, readerLimit}
 use Rattle.cie.proofs.Scales.{below, none-above}
-use Rattle.endian.specs.Bytes.{numberAt, at16, words, AllBelow}
-use Rattle.endian.proofs.Words.{length-words, words-below}
-use Rattle.book.specs.Book.{headLength, entryLength, bodyLength, bodiesAt, rising, entryOk, entriesOk, countOf, numbersOf, readingsIn, readingsOf, isBook}
-use Rattle.book.proofs.Rules.{and-left, and-right, rules}
+use Rattle.endian.specs.Bytes.{AllBelow}
+use Rattle.endian.proofs.Words.{length-words}
+use Rattle.book.specs.Book.{headLength, entryLength, bodiesAt, countOf, numbersOf, readingsIn, readingsOf, isBook}
+use Rattle.book.proofs.Rules.{rules}
+use Rattle.book.proofs.Rising.{numbers-rise, numbers-small}
 use Rattle.book_writer.proofs.Shades.{Shades}
 use Rattle.strike.specs.Striking.{remaining}
 use Rattle.strike.proofs.Remaining.{above-remain, rising-remain, long-remain, few-remain}
-
-entries-rise : (rows : ℕ) (s : List ℕ) (n at before o : ℕ) → entriesOk rows s at before o n ≡ true → rising before (words s at entryLength n) ≡ true
-unfolding entriesOk entryOk rising words
-entries-rise rows s zero at before o h = refl
-entries-rise rows s (suc n) at before o h =
-    let up = ltb before (at16 s at) in
-    let len = eqb (at16 s (at + 2)) (bodyLength rows) in
-    let off = eqb (numberAt 4 s (at + 4)) o in
-    let rest = entriesOk rows s (at + entryLength) (at16 s at) (o + bodyLength rows) n in
-    rw (and-left up len (and-left (up && len) off (and-left (up && len && off) rest h)))
-    (entries-rise rows s n (at + entryLength) (at16 s at) (o + bodyLength rows) (and-right (up && len && off) rest h))
 
 pub book-shades : (rows : ℕ) (s : List ℕ) → AllBelow 256 s → isBook rows s ≡ true → Shades rows (numbersOf s) (readingsOf rows s)
 unfolding numbersOf readingsIn
@@ -34,8 +23,8 @@ book-shades rows s b h =
     record {
       long = length-words s (bodiesAt (countOf s)) 2 (rows * countOf s) ∙ ap (λ (k : ℕ). rows * k) (sym n);
       few = omega (arith, r .few);
-      small = words-below s b (countOf s) headLength entryLength;
-      rises = entries-rise rows s (countOf s) headLength 0 (bodiesAt (countOf s)) (r .entries);
+      small = numbers-small s b;
+      rises = numbers-rise s rows h;
       fair = r .fair;
     }
 

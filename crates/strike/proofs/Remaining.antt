@@ -11,10 +11,10 @@ use lib.Seq.{take-at, drop-at, drop-drop, take-add, length-take-le}
 use lib.Dec.{ltb, eqb}
 use borrow.Author.Tests.{ltb-true, lt-ltb, eq-eqb, ne-eqb, eqb-true}
 use Rattle.cie.specs.Scales.{anyAbove}
-use Rattle.cie.proofs.Scales.{or-left, or-right, above-append}
+use Rattle.cie.proofs.Scales.{or-left, or-right, above-append, below-parts}
 use Rattle.book.specs.Book.{rising, isIn, indexOf, spectrumOf}
 use Rattle.book.proofs.Rules.{and-left, and-right}
-use Rattle.book_writer.proofs.Back.{rising-above}
+use Rattle.book.proofs.Rising.{rising-above}
 use Rattle.strike.specs.Striking.{remaining}
 
 -- so many for each of some numbers, and of them those of the first
@@ -90,17 +90,15 @@ remain-either each j k (x ∷ xs) all long =
 pub above-remain : (limit each k : ℕ) (xs all : List ℕ) → anyAbove limit all ≡ false → anyAbove limit (remaining each k xs all) ≡ false
 unfolding remaining anyAbove
 above-remain limit each k [] all h = refl
-above-remain limit each k (x ∷ xs) all h = go (eqb x k) (above-remain limit each k xs (drop each all) (or-right (anyAbove limit (take each all)) _ parts))
+above-remain limit each k (x ∷ xs) all h = go (eqb x k) (above-remain limit each k xs (drop each all) (parts .1))
   where
-    parts : (anyAbove limit (take each all) || anyAbove limit (drop each all)) ≡ false
-    parts = sym (above-append limit (take each all) (drop each all)) ∙ ap (anyAbove limit) (take-append-drop each all) ∙ h
+    parts : (anyAbove limit (take each all) ≡ false) × (anyAbove limit (drop each all) ≡ false)
+    parts = below-parts limit each all h
 
     go : (t : Bool) → anyAbove limit (remaining each k xs (drop each all)) ≡ false
         → anyAbove limit (cond t [] (take each all) ++ remaining each k xs (drop each all)) ≡ false
     go true next = next
-    go false next =
-        above-append limit (take each all) (remaining each k xs (drop each all))
-        ∙ rw (or-left (anyAbove limit (take each all)) (anyAbove limit (drop each all)) parts, next)
+    go false next = above-append limit (take each all) (remaining each k xs (drop each all)) ∙ rw (parts .0, next)
 
 -- numbers that rise still rise
 rising-lower : (b c : ℕ) (xs : List ℕ) → b ≤ c → rising c xs ≡ true → rising b xs ≡ true

@@ -63,12 +63,13 @@ squareRoot-floor n =
     up zero x = omega arith
     up (suc p) x = omega (arith, leb→le (suc p * suc p) n x)
 
+-- it is at least each number whose square passes
+pub squareRoot-above : (n p : ℕ) → p * p ≤ n → p ≤ squareRoot n
+squareRoot-above n p h = le-of-suc-le-suc (root-lt p (suc (squareRoot n)) (lt-of-le-of-lt h (squareRoot-floor n .1)))
+
 pub squareRoot-is : (n p : ℕ) → p * p ≤ n → n < suc p * suc p → squareRoot n ≡ p
 squareRoot-is n p h k =
-    let f = squareRoot-floor n in
-    le-antisymm
-    (le-of-suc-le-suc (root-lt (squareRoot n) (suc p) (lt-of-le-of-lt (f .0) k)))
-    (le-of-suc-le-suc (root-lt p (suc (squareRoot n)) (lt-of-le-of-lt h (f .1))))
+    le-antisymm (le-of-suc-le-suc (root-lt (squareRoot n) (suc p) (lt-of-le-of-lt (squareRoot-floor n .0) k))) (squareRoot-above n p h)
 
 pub cubeRoot-floor : (K N D : ℕ) → 0 < D →
     (cubeRoot K N D * cubeRoot K N D * cubeRoot K N D * D ≤ K * K * K * N)

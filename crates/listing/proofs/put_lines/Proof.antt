@@ -1,5 +1,5 @@
 -- `listing::put_lines` meets its contract: the lines that are left, put from here, are those of all. Assumes nothing.
-use mathlib.Core.Path.{_≡_, refl, sym, subst, ap, _∙_}
+use mathlib.Core.Path.{_≡_, refl, sym, ap, _∙_}
 use Prim.Native.Nat.{ℕ, _≤_, _-_, _+_, _*_}
 use native.Mathlib.Omega.{arith}
 use native.Mathlib.Nat.{mul-zero}
@@ -13,6 +13,7 @@ use Rattle.conditions.specs.declared.Conditions.{Conditions}
 use Rattle.conditions.specs.Conditions.{conditionsOf, conditionsBy, Sound}
 use Rattle.book.specs.Book.{isBook, numbersOf, readingsOf}
 use Rattle.book.proofs.Rules.{book-contents, length-numbersOf}
+use Rattle.shades.proofs.Spectra.{colour-ready}
 use Rattle.text.proofs.Puts.{same, Left, left-all, left-more, left-none}
 use Rattle.listing.specs.Listing.{linesOf, shadeLines, lineRoom}
 use Rattle.listing.proofs.Lines.{line-same, lines-more, lines-none, opened-d65, shade-d65}
@@ -54,14 +55,12 @@ loop-holds c =
     let s = c .before .before .before .before .before .before in
     (omega arith, omega arith, refl, refl, rw (mul-zero (rowsAt (s .args .spacing))) left-all)
 
-shade-under-requires : tie.Need-shade-under-requires Inv-loop μ-loop
-shade-under-requires c κs =
+colour-under-requires : tie.Need-colour-under-requires Inv-loop μ-loop
+colour-under-requires c κs =
     let l = c .before .before .before .before .before .before .before .before in
-    let book = start l .args .book .now in (
-      subst Sound (sym (lent l)) (sound l),
-      ap (λ (k : Conditions). isBook (k .rows) book) (lent l ∙ opened l) ∙ start l .pre .1,
-      omega (arith, l .before .before .count .ensures .0),
-    )
+    let s = start l in
+    colour-ready (sound l) (s .args .book .now) (l .before .loop .i) (ap (λ (k : Conditions). isBook (k .rows) (s .args .book .now)) (opened l) ∙ s .pre .1)
+    (omega (arith, l .before .before .count .ensures .0)) (places l)
 
 put-shade-requires : tie.Need-put-shade-requires Inv-loop μ-loop
 put-shade-requires c κs =
@@ -74,7 +73,7 @@ put-shade-requires c κs =
 loop-again : tie.Need-loop-again Inv-loop μ-loop
 loop-again c =
     let p = c .before .before .put-shade in
-    let shade = c .before .before .before .before .before .shade-under in
+    let shade = c .before .before .before .before .before .colour-under in
     let l = c .before .before .before .before .before .before .before .before .before .before .before .before .before .before in
     let n = l .before .before .count .ensures in
     let t = l .before .loop in
@@ -111,7 +110,7 @@ put-lines-spec =
     loop-holds
     (λ l. omega (arith, sound l .few, l .before .loop .inv .3))
     (λ c. sym (places (c .before)))
-    shade-under-requires
+    colour-under-requires
     put-shade-requires
     (λ c. search needs)
     (λ c. search needs)

@@ -1,15 +1,16 @@
--- `listing::shade_under` meets its contract: a book's readings are spectra, so each has its colour. Assumes nothing.
+-- `shades::colour_under` meets its contract: a book's readings are spectra, so each has its colour. Assumes nothing.
 use mathlib.Core.Path.{sym, subst, ap, _∙_}
 use Prim.Native.Nat.{ℕ}
 use denote.Ref.{now}
 use borrow.Author.Needs.{needs}
 use lib.ListN.{length}
 use Rattle.conditions.specs.declared.Conditions.{Conditions}
+use Rattle.conditions.specs.Weights.{Spectrum}
 use Rattle.conditions.specs.Conditions.{conditionsBy, Sound}
 use Rattle.conditions.specs.Measure.{colourUnder}
-use Rattle.listing.proofs.Lines.{spectrum-fair}
-use Rattle.listing.proofs.shade_under.Statement.{statement}
-use Rattle.listing.proofs.shade_under.Tie as tie
+use Rattle.shades.proofs.Spectra.{spectrum-fair}
+use Rattle.shades.proofs.colour_under.Statement.{statement}
+use Rattle.shades.proofs.colour_under.Tie as tie
 
 -- where the readings were read: what was given, and the conditions at a number of rows
 abbrev start : tie.After-spectrum-at → tie.Start
@@ -25,7 +26,7 @@ colour-by-requires c κs =
     let sound = s .pre .0 in
     let kept = g .spectrum-at .kept .1 .1 .0 in (
       subst (λ (rows : ℕ). Sound (conditions s rows)) (sym kept) sound,
-      spectrum-fair (length (s .args .places .now)) (s .args .book .now) (s .args .i) (sound .few) (s .pre .1) kept (g .spectrum-at .ensures),
+      subst Spectrum (sym (g .spectrum-at .ensures)) (spectrum-fair (length (s .args .places .now)) (s .args .book .now) (s .args .i) (sound .few) (s .pre .1)),
     )
 
 returns : tie.Need-returns
@@ -33,5 +34,5 @@ returns c =
     let g = c .before .before .before .before in
     c .colour-by .ensures ∙ ap (colourUnder (conditions (start g) (length (start g .args .places .now)))) (g .spectrum-at .ensures)
 
-pub shade-under-spec : {M : Type 1} → statement M
-shade-under-spec = tie.close (tie.spec (λ c κs. search needs) colour-by-requires (λ c. search needs) returns)
+pub colour-under-spec : {M : Type 1} → statement M
+colour-under-spec = tie.close (tie.spec (λ c κs. search needs) colour-by-requires (λ c. search needs) returns)
