@@ -1,0 +1,4 @@
+pub mod Beside
+pub mod Theorems
+pub mod Comparisons
+pub mod Checking

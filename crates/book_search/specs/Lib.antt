@@ -1,0 +1,3 @@
+pub mod Shades
+pub mod Searching
+pub mod Claims

@@ -1,0 +1,3 @@
+pub mod Rule
+pub mod Claims
+pub mod Order
