@@ -1,4 +1,4 @@
--- Demand 3 for a run: its outcomes are the ledger's, which session's whole-list claim says are right. Assumes nothing.
+-- Demand 3 for a run: its outcomes are the ledger's, which the claim about every list says are right. Assumes nothing.
 use mathlib.Core.Path.{subst}
 use mathlib.Core.List.{List, []}
 use Prim.Native.Nat.{ℕ, _*_, _≤_}
@@ -6,9 +6,9 @@ use lib.ListN.{length}
 use Rattle.session.specs.Call.{Call}
 use Rattle.session.specs.Outcome.{Outcome}
 use Rattle.session.specs.Ledger.{emptyLedger, outcomesAt}
-use Rattle.session.specs.Claim.{Each, Right}
-use Rattle.session.proofs.Simulation.{outcomes-same}
-use Rattle.session.proofs.Claim.{every-list}
+use Rattle.claims.specs.Claim.{Each, Right}
+use Rattle.claims.proofs.Lists.{outcomes-same}
+use Rattle.claims.proofs.Claim.{every-list}
 use Rattle.calls.specs.Records.{answerWords, callCount}
 use Rattle.calls.specs.Run.{callsIn}
 use Rattle.calls.specs.Claim.{RunRight}

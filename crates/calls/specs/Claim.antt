@@ -6,7 +6,7 @@ use Prim.Native.Nat.{ℕ, _*_}
 use lib.ListN.{drop}
 use Rattle.session.specs.Outcome.{Outcome}
 use Rattle.session.specs.Ledger.{emptyLedger}
-use Rattle.session.specs.Claim.{Each, Right}
+use Rattle.claims.specs.Claim.{Each, Right}
 use Rattle.calls.specs.Records.{answerWords, callCount, answerRecords}
 use Rattle.calls.specs.Run.{callsIn, answersAfter}
 

@@ -1,15 +1,5 @@
 pub mod Trying
-pub mod Kept
-pub mod Told
 pub mod Looking
 pub mod Simulation
 pub mod Valid
 pub mod Replies
-pub mod Counts
-pub mod Claim
-pub mod Looks
-pub mod Steps
-pub mod ByTable
-pub mod Brighter
-pub mod Stopped
-pub mod OrderTells

@@ -1,7 +1,7 @@
 -- The session is a function of the ledger: each call takes the session of a ledger to the session of the ledger after it, with the ledger's
 -- outcome. Assumes nothing.
 use mathlib.Core.Path.{_≡_, refl, _∙_, ap}
-use mathlib.Core.List.{List, [], _∷_}
+use mathlib.Core.List.{List}
 use Prim.Native.Nat.{ℕ}
 use Rattle.causes.specs.declared.Cause.{Cause}
 use Rattle.causes.specs.declared.Checked.{Checked}
@@ -16,11 +16,10 @@ use Rattle.tallies.specs.Tallies.{talliedBy}
 use Rattle.tallies.proofs.ByTable.{map-changed, map-back}
 use Rattle.trials.specs.Outcome.{Amount, TrialOutcome}
 use Rattle.session.specs.Call.{Call, open-tables, open-light, set-standard, set-tolerance, trial, report, look}
-use Rattle.session.specs.Outcome.{VerdictCounts, Outcome, tried, counted}
-use Rattle.session.specs.Ledger.{Held, none, held, Ledger, emptyLedger, Entry, countedIn, triedAt, countedAt, entered, outcomesAt}
-use Rattle.session.specs.Served.{countsOf, Reply, served, freshSession, standardBy, withTallies, countedBy, seenBy}
+use Rattle.session.specs.Outcome.{VerdictCounts, tried, counted}
+use Rattle.session.specs.Ledger.{Held, none, held, Ledger, Entry, countedIn, triedAt, countedAt, entered}
+use Rattle.session.specs.Served.{countsOf, Reply, served, standardBy, withTallies, countedBy, seenBy}
 use Rattle.session.specs.Stands.{talliesOf, sessionOf}
-use Rattle.session.specs.Claim.{outcomesFrom, Event, event, Each, done, more}
 use Rattle.session.proofs.Trying.{colour-same, ledgerOf, tried-same}
 use Rattle.session.proofs.Looking.{looking}
 
@@ -69,24 +68,3 @@ simulated l (set-tolerance space amount) = both _ _ _ _ _ (λ c. refl) refl
 simulated l (trial table readings) = ap (countedBy (sessionOf l) table) (tried-same l table readings) ∙ counting l table (triedAt l table readings)
 simulated l report = reporting l
 simulated l (look k) = ap (seenBy (sessionOf l)) (looking l k)
-
--- from the session of a ledger a list of calls is given the ledger's outcomes
-pub outcomes-same : (l : Ledger) (cs : List Call) → outcomesFrom (sessionOf l) cs ≡ outcomesAt l cs
-outcomes-same l [] = refl
-outcomes-same l (c ∷ cs) = rw (simulated l c, outcomes-same (entered l c .ledger) cs)
-
--- what holds of the ledger's own outcomes, under a rule that every call keeps, holds of the program's at each call of a list
-module _
-    (P : List Event → Ledger → Call → Outcome → Type 0)
-    (K : List Event → Ledger → Type 0)
-    (kept : (before : List Event) (l : Ledger) (c : Call) → K before l → K (event c (entered l c .outcome) ∷ before) (entered l c .ledger))
-    (right : (before : List Event) (l : Ledger) (c : Call) → K before l → P before l c (entered l c .outcome))
-  where
-    each-from : (before : List Event) (l : Ledger) (cs : List Call) → K before l → Each P before l cs (outcomesFrom (sessionOf l) cs)
-    each-from before l [] k = done
-    each-from before l (c ∷ cs) k =
-        let history = event c (entered l c .outcome) ∷ before in
-        rw (simulated l c) (more (right before l c k) (each-from history (entered l c .ledger) cs (kept before l c k)))
-
-    pub each-call : K [] emptyLedger → (cs : List Call) → Each P [] emptyLedger cs (outcomesFrom freshSession cs)
-    each-call k cs = each-from [] emptyLedger cs k

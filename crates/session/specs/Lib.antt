@@ -5,8 +5,3 @@ pub mod Ledger
 pub mod Served
 pub mod Stands
 pub mod Meets
-pub mod Claim
-pub mod Looks
-pub mod ByTable
-pub mod Brighter
-pub mod Stopped

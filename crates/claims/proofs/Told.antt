@@ -1,17 +1,18 @@
--- What the working out of a trial tells of the exact difference: the verdict's rule is right, and all that the ledger has passed its checks.
--- Assumes nothing.
+-- What the working out of a trial tells of the exact difference, and a look with it: the verdict's rule is right, and all that the ledger has
+-- passed its checks. Assumes nothing.
 use mathlib.Core.List.{List}
 use Prim.Native.Nat.{ℕ}
-use Rattle.causes.specs.Causes.{Numbered, accepted, refused}
+use Rattle.causes.specs.Causes.{Numbered, accepted, refused, mapped}
 use Rattle.causes.proofs.Checks.{clear-at, either}
 use Rattle.cie.specs.Sums.{Tables, sumsOf, whiteOf}
 use Rattle.cie.proofs.Verdicts.{verdicts-right}
 use Rattle.trials.specs.Outcome.{Amount, TrialOutcome}
-use Rattle.session.specs.Outcome.{VerdictCounts}
-use Rattle.session.specs.Ledger.{Held, none, held, Ledger, workedOut, triedAt}
-use Rattle.session.specs.Claim.{VerdictAt}
+use Rattle.looks.specs.Look.{Look, preview, previewed}
+use Rattle.session.specs.Outcome.{VerdictCounts, seen}
+use Rattle.session.specs.Ledger.{Held, none, held, Ledger, workedOut, triedAt, lookedAt}
 use Rattle.session.proofs.Trying.{ledgerOf}
-use Rattle.session.proofs.Kept.{Proper, Readable, Kept, white-kept, twice-kept}
+use Rattle.claims.specs.Claim.{VerdictAt, LookTold}
+use Rattle.claims.proofs.Kept.{Proper, Readable, Kept, white-kept, twice-kept}
 
 -- what the working out of a trial is owed
 abbrev pub Owed : Ledger → List ℕ → Numbered TrialOutcome → Type 0
@@ -32,3 +33,12 @@ pub tried-told : (l : Ledger) (table : ℕ) (readings : List ℕ) → Kept l →
 tried-told l table readings k =
     either _ (Owed l readings) _ _ (λ c. tt)
     (λ e. worked-out (l .conditions) (l .standard) (l .tolerance) (l .counts) readings (k .tables) (k .standard) (clear-at _ e 6))
+
+-- a look tells what a trial would
+preview-told : (l : Ledger) (table : ℕ) (readings : List ℕ) (a : Numbered TrialOutcome) → Owed l readings a →
+    LookTold l (preview table readings) (seen (mapped previewed a))
+preview-told l table readings (accepted t) h = h
+preview-told l table readings (refused cause) h = tt
+
+pub look-told : (l : Ledger) (k : Look) → Kept l → LookTold l k (seen (lookedAt l k))
+look-told l (preview table readings) k = preview-told l table readings (triedAt l table readings) (tried-told l table readings k)

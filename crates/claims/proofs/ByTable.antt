@@ -14,10 +14,10 @@ use Rattle.tallies.proofs.Sets.{countAt}
 use Rattle.tallies.proofs.Orders.{afterAll, triedIn, NoneLost, below-lost, order-same}
 use Rattle.trials.specs.Outcome.{TrialOutcome}
 use Rattle.trials.specs.Tried.{triedBy}
 use Rattle.session.specs.declared.Session.{Session}
 use Rattle.session.specs.Served.{standingOf, countedBy, Valid}
-use Rattle.session.specs.ByTable.{talliesFor, OthersKept, Trial, afterTrials, Reordered, NoneReached, NoneFull, EndAlike, AnyOrder}
-use Rattle.session.proofs.Steps.{withSets, ownVerdict, stepped, not-lost}
+use Rattle.claims.specs.ByTable.{talliesFor, OthersKept, Trial, afterTrials, Reordered, NoneReached, NoneFull, EndAlike, AnyOrder}
+use Rattle.claims.proofs.Steps.{withSets, ownVerdict, stepped, not-lost}
 
 counted-keeps : (s : Session) (table : ℕ) (a : Numbered TrialOutcome) (another : ℕ) → (another ≡ table → ⊥) →
     talliesFor (countedBy s table a .session) another ≡ talliesFor s another

@@ -15,14 +15,14 @@ use Rattle.cie.specs.Scales.{anyAbove, frameLimit}
 use Rattle.trials.specs.Outcome.{TrialOutcome}
 use Rattle.trials.specs.Tried.{triedBy}
 use Rattle.looks.specs.Look.{previewed}
 use Rattle.session.specs.declared.Session.{Session}
 use Rattle.session.specs.Call.{Call, set-standard}
 use Rattle.session.specs.Outcome.{Outcome, coloured, tried, seen}
 use Rattle.session.specs.Ledger.{held}
 use Rattle.session.specs.Served.{Reply, refusedBy, standingOf, foundOutcome, served}
-use Rattle.session.specs.Brighter.{ColourAnswered, by-standard, by-trial, by-preview}
-use Rattle.session.specs.Stopped.{RefusedFrom, BrightStopped}
-use Rattle.session.proofs.Kept.{Readable}
+use Rattle.claims.specs.Brighter.{ColourAnswered, by-standard, by-trial, by-preview}
+use Rattle.claims.specs.Stopped.{RefusedFrom, BrightStopped}
+use Rattle.claims.proofs.Kept.{Readable}
 
 module _ (s : Session) (readings : List ℕ) where
   -- a trial refuses, or the spectrum has passed its checks

@@ -9,10 +9,10 @@ use Rattle.causes.specs.declared.Cause.the-variants.{OverBright}
 use Rattle.cie.specs.declared.Colour.{Colour}
 use Rattle.cie.specs.Scales.{anyAbove, frameLimit}
 use Rattle.cie.specs.Sums.{Tables}
 use Rattle.session.specs.declared.Session.{Session}
 use Rattle.session.specs.Call.{set-standard}
 use Rattle.session.specs.Served.{Reply, refusedBy, served}
-use Rattle.session.specs.Brighter.{AcceptedSpectrum}
+use Rattle.claims.specs.Brighter.{AcceptedSpectrum}
 
 -- a refusal, and the session as it was
 pub record RefusedFrom (s : Session) (r : Reply) : Type 0 where

@@ -5,11 +5,11 @@ use Prim.Native.Nat.{ℕ, suc}
 use lib.ListN.{length, take, drop}
 use Rattle.causes.specs.Causes as causes
 use Rattle.looks.specs.Look.{Look, preview, previewed}
 use Rattle.session.specs.declared.Session.{Session}
 use Rattle.session.specs.Call.{Call, trial, look}
 use Rattle.session.specs.Outcome.{Outcome, accepted, coloured, tried, counted, seen, refused}
 use Rattle.session.specs.Served.{served}
-use Rattle.session.specs.Claim.{outcomesFrom}
+use Rattle.claims.specs.Claim.{outcomesFrom}
 
 -- a trial's outcome as a preview gives it: the same answer, or the same cause
 abbrev pub asPreview : Outcome → Outcome

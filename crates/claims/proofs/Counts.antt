@@ -16,10 +16,10 @@ use Rattle.cie.specs.Sums.{Tables}
 use Rattle.tallies.specs.ByTable.{tableNumbers, changedAt}
 use Rattle.tallies.proofs.ByTable.{changed-numbered}
 use Rattle.trials.specs.Outcome.{Amount, TrialOutcome}
 use Rattle.session.specs.Call.{Call, open-tables, open-light, set-standard, set-tolerance, trial, report, look}
 use Rattle.session.specs.Outcome.{VerdictCounts, Outcome, tried}
 use Rattle.session.specs.Ledger.{Held, none, held, Ledger, Entry, standardAt, countedIn, triedAt, countedAt, entered}
-use Rattle.session.specs.Claim.{Event, event, isPass, isFail, isLine, given, timesGiven, verdictsFor, verdictsIn}
+use Rattle.claims.specs.Claim.{Event, event, isPass, isFail, isLine, given, timesGiven, verdictsFor, verdictsIn}
 
 -- after a call the entry's ledger counts the call with those before it
 abbrev CountsAfter : List Event → Call → Entry → Type 0

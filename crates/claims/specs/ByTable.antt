@@ -8,11 +8,11 @@ use Rattle.tallies.specs.declared.Tallies.{Tallies}
 use Rattle.tallies.specs.ByTable.{tableLimit}
 use Rattle.tallies.specs.Tallies.{tallySum, setOf}
 use Rattle.looks.specs.Look.{preview}
 use Rattle.session.specs.declared.Session.{Session}
 use Rattle.session.specs.Call.{Call, trial, look}
 use Rattle.session.specs.Outcome.{refused}
 use Rattle.session.specs.Served.{served, Valid}
-use Rattle.session.specs.Claim.{sessionAfter}
+use Rattle.claims.specs.Claim.{sessionAfter}
 
 -- the set of tallies that a session has for a table
 abbrev pub talliesFor : Session → ℕ → Tallies

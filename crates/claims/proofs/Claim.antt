@@ -7,14 +7,13 @@ use Rattle.causes.specs.Causes.{Numbered, accepted, refused}
 use Rattle.causes.proofs.Checks.{either}
 use Rattle.cie.specs.Sums.{Tables}
 use Rattle.trials.specs.Outcome.{TrialOutcome}
 use Rattle.session.specs.Call.{Call, open-tables, open-light, set-standard, set-tolerance, trial, report, look}
 use Rattle.session.specs.Ledger.{Held, none, held, Ledger, Entry, standardAt, triedAt, countedAt, entered}
-use Rattle.session.specs.Claim.{Event, timesGiven, verdictsIn, TrialTold, NoVerdict, CallTold, Right, EveryList}
-use Rattle.session.proofs.Kept.{Kept, kept-empty, kept-next}
-use Rattle.session.proofs.Told.{Owed, tried-told}
-use Rattle.session.proofs.Looking.{look-told}
-use Rattle.session.proofs.Simulation.{each-call}
-use Rattle.session.proofs.Counts.{counts-next}
+use Rattle.claims.specs.Claim.{Event, timesGiven, verdictsIn, TrialTold, NoVerdict, CallTold, Right, EveryList}
+use Rattle.claims.proofs.Kept.{Kept, kept-empty, kept-next}
+use Rattle.claims.proofs.Told.{Owed, tried-told, look-told}
+use Rattle.claims.proofs.Lists.{each-call}
+use Rattle.claims.proofs.Counts.{counts-next}
 
 -- what is carried from call to call: the ledger's entries passed their checks, and its counts are those of its history
 record Carried (before : List Event) (l : Ledger) : Type 0 where

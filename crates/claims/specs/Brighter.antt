@@ -15,11 +15,11 @@ use Rattle.cie.specs.Brighter.{NoneHigher, NoBrighter}
 use Rattle.conditions.specs.Checks.{tableChecks, spectrumChecks}
 use Rattle.trials.specs.Outcome.{TrialOutcome}
 use Rattle.looks.specs.Look.{preview, previewed}
 use Rattle.session.specs.Call.{Call, set-standard, trial, look}
 use Rattle.session.specs.Outcome.{Outcome, coloured, tried, seen}
 use Rattle.session.specs.Ledger.{held, emptyLedger, ledgerAfter}
 use Rattle.session.specs.Served.{served, freshSession}
-use Rattle.session.specs.Claim.{sessionAfter}
+use Rattle.claims.specs.Claim.{sessionAfter}
 
 -- a call that gives these readings and is answered with this colour: a standard, a trial or a preview
 pub data ColourAnswered (readings : List ℕ) : Colour → Call → Outcome → Type 0 where

@@ -8,12 +8,12 @@ use Rattle.causes.specs.Causes.{Numbered, accepted, refused, mapped}
 use Rattle.trials.specs.Outcome.{TrialOutcome}
 use Rattle.trials.specs.Tried.{triedBy}
 use Rattle.looks.specs.Look.{Look, previewed}
 use Rattle.session.specs.declared.Session.{Session}
 use Rattle.session.specs.Call.{Call, look}
 use Rattle.session.specs.Outcome.{Outcome, seen}
 use Rattle.session.specs.Served.{served, standingOf, countedBy}
-use Rattle.session.specs.Claim.{outcomesFrom}
-use Rattle.session.specs.Looks.{asPreview, PreviewIsTrial, without, LookLeftOut}
+use Rattle.claims.specs.Claim.{outcomesFrom}
+use Rattle.claims.specs.Looks.{asPreview, PreviewIsTrial, without, LookLeftOut}
 
 -- whatever the working out found
 shown-alike : (s : Session) (table : ℕ) (a : Numbered TrialOutcome) → seen (mapped previewed a) ≡ asPreview (countedBy s table a .outcome)

@@ -13,16 +13,16 @@ use Rattle.cie.proofs.Whites.{white-y}
 use Rattle.cie.proofs.Ordered.{colours-rise}
 use Rattle.trials.specs.Outcome.{Amount, TrialOutcome}
 use Rattle.looks.specs.Look.{previewed}
 use Rattle.session.specs.Call.{Call, open-tables, set-standard}
 use Rattle.session.specs.Outcome.{Outcome, coloured, tried, seen}
 use Rattle.session.specs.Ledger.{Held, none, held, Ledger, emptyLedger, Entry, standardAt, workedOut, triedAt, countedAt, entered, ledgerAfter}
 use Rattle.session.specs.Served.{Reply, served}
 use Rattle.session.specs.Stands.{sessionOf}
-use Rattle.session.specs.Claim.{sessionAfter}
-use Rattle.session.specs.Brighter.{ColourAnswered, by-standard, by-trial, by-preview, AcceptedSpectrum, BrighterNeverDarker}
 use Rattle.session.proofs.Trying.{colour-same}
-use Rattle.session.proofs.Kept.{Proper, Kept, kept-empty, kept-next, white-kept}
 use Rattle.session.proofs.Simulation.{simulated}
+use Rattle.claims.specs.Claim.{sessionAfter}
+use Rattle.claims.specs.Brighter.{ColourAnswered, by-standard, by-trial, by-preview, AcceptedSpectrum, BrighterNeverDarker}
+use Rattle.claims.proofs.Kept.{Proper, Kept, kept-empty, kept-next, white-kept}
 
 -- ── after a list of calls ──
 

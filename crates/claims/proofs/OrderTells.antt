@@ -21,11 +21,11 @@ use Rattle.tallies.specs.ByTable.{tableCount, tableLimit}
 use Rattle.tallies.specs.Tallies.{noTallies, tallySum, setOf, Within}
 use Rattle.tallies.proofs.ByTable.{same-at}
 use Rattle.trials.specs.Tried.{triedBy}
 use Rattle.session.specs.declared.Session.{Session}
 use Rattle.session.specs.Call.{open-light, set-standard, set-tolerance}
 use Rattle.session.specs.Served.{served, freshSession, withTallies, Valid}
-use Rattle.session.specs.ByTable.{Trial, afterTrials, OrderTells}
 use Rattle.session.proofs.Valid.{valid-fresh, valid-next}
+use Rattle.claims.specs.ByTable.{Trial, afterTrials, OrderTells}
 
 -- a shade under D65 at 10 nm, and a tolerance of one unit
 abbrev shade : List ℕ

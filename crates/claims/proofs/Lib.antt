@@ -1,0 +1,11 @@
+pub mod Kept
+pub mod Told
+pub mod Lists
+pub mod Counts
+pub mod Claim
+pub mod Looks
+pub mod Steps
+pub mod ByTable
+pub mod Brighter
+pub mod Stopped
+pub mod OrderTells

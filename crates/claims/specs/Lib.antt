@@ -1,0 +1,5 @@
+pub mod Claim
+pub mod Looks
+pub mod ByTable
+pub mod Brighter
+pub mod Stopped
