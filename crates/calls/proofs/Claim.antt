@@ -9,7 +9,8 @@ use Rattle.session.specs.Ledger.{emptyLedger, outcomesAt}
 use Rattle.claims.specs.Claim.{Each, Right}
 use Rattle.claims.proofs.Lists.{outcomes-same}
 use Rattle.claims.proofs.Claim.{every-list}
-use Rattle.calls.specs.Records.{answerWords, callCount}
+use Rattle.answers.specs.Answers.{answerWords}
+use Rattle.calls.specs.Records.{callCount}
 use Rattle.calls.specs.Run.{callsIn}
 use Rattle.calls.specs.Claim.{RunRight}
 use Rattle.calls.proofs.Ends.{after-answered}

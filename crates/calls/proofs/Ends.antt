@@ -12,7 +12,8 @@ use Rattle.causes.specs.declared.Cause.the-variants.{ShortBuffer}
 use Rattle.causes.specs.Causes.{causeNumber, accepted, refused}
 use Rattle.causes.proofs.Checks.{fires, passes, ends}
 use Rattle.session.specs.Ledger.{emptyLedger, outcomesAt}
-use Rattle.calls.specs.Records.{answerWords, callCount, answerRecords}
+use Rattle.answers.specs.Answers.{answerWords, answerRecords}
+use Rattle.calls.specs.Records.{callCount}
 use Rattle.calls.specs.Run.{callsIn, ran, answersAfter}
 
 module _ (records : List ℕ) (room : ℕ) where

@@ -1,6 +1,5 @@
 pub mod Parts
 pub mod ByKind
-pub mod Laid
 pub mod Turns
 pub mod Ends
 pub mod Claim

@@ -14,8 +14,9 @@ use Rattle.session.specs.Served.{outcomeOf, freshSession, Valid}
 use Rattle.session.specs.Stands.{sessionOf}
 use Rattle.session.specs.Meets.{Meets}
 use Rattle.stores.proofs.Runs.{sets-then, sets-part, sets-front}
-use Rattle.calls.specs.Records.{callWords, answerWords, callOf, callAt, callsFrom, callCount, answerRecord, answerRecords}
-use Rattle.calls.proofs.Laid.{length-answer}
+use Rattle.answers.specs.Answers.{answerWords, answerRecord, answerRecords}
+use Rattle.answers.proofs.Laid.{length-answer}
+use Rattle.calls.specs.Records.{callWords, callOf, callAt, callsFrom, callCount}
 
 -- the calls from a place are the one there and those after it
 calls-more : (n m : ℕ) (records tables spectra : List ℕ) (at : ℕ) → n ≡ suc m

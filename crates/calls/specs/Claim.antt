@@ -7,7 +7,8 @@ use lib.ListN.{drop}
 use Rattle.session.specs.Outcome.{Outcome}
 use Rattle.session.specs.Ledger.{emptyLedger}
 use Rattle.claims.specs.Claim.{Each, Right}
-use Rattle.calls.specs.Records.{answerWords, callCount, answerRecords}
+use Rattle.answers.specs.Answers.{answerWords, answerRecords}
+use Rattle.calls.specs.Records.{callCount}
 use Rattle.calls.specs.Run.{callsIn, answersAfter}
 
 pub record RunRight (records tables spectra buffer : List ℕ) : Type 0 where

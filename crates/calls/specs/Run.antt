@@ -8,9 +8,10 @@ use Rattle.causes.specs.Causes.{Numbered, accepted, refusal}
 use Rattle.causes.specs.Checks.{Check, check, firstOf, unless, numbered}
 use Rattle.session.specs.Call.{Call}
 use Rattle.session.specs.Ledger.{emptyLedger, outcomesAt}
+use Rattle.answers.specs.Answers.{answerWords, answerRecords}
 use Rattle.calls.specs.declared.Ran.{Ran}
 use Rattle.calls.specs.declared.Ran.the-variants.{Answered, Refused}
-use Rattle.calls.specs.Records.{answerWords, callsFrom, callCount, answerRecords}
+use Rattle.calls.specs.Records.{callsFrom, callCount}
 
 -- the list of calls that the slices hold
 abbrev pub callsIn : List ℕ → List ℕ → List ℕ → List Call

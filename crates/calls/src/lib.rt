@@ -1,5 +1,5 @@
 // Runs a whole list of calls that is held in slices: ten words a call, with its tables and spectra as parts of two slices, and
-// thirty-two words for each answer. specs/Records.antt lays the records out.
+// thirty-two words for each answer. specs/Records.antt lays a call out, answers/specs/Answers.antt an answer.
 ghost use mathlib.Core.Path.{_≡_};
 ghost use Prim.Native.Nat.{_+_, _<_};
 ghost use lib.ListN.{length};
@@ -12,8 +12,6 @@ use causes::Cause;
 use cie::Space;
 use session::Served;
 use session::Session;
-
-mod answers;
 
 // How many calls were answered, or the cause against the run.
 pub enum Ran {

@@ -5,7 +5,8 @@ use native.Mathlib.Omega.{arith}
 use borrow.Author.Needs.{needs}
 use borrow.Rule.Slice.PartMut.{same-len-mid}
 use lib.ListN.{length}
-use Rattle.calls.specs.Records.{callWords, answerWords, callCount}
+use Rattle.answers.specs.Answers.{answerWords}
+use Rattle.calls.specs.Records.{callWords, callCount}
 use Rattle.calls.proofs.Turns.{Along, along-start, along-next, along-end}
 use Rattle.calls.proofs.Ends.{ran-short, ran-answered, after-short, after-answered}
 use Rattle.calls.proofs.run.Statement.{statement}

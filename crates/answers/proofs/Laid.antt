@@ -23,7 +23,7 @@ use Rattle.session.specs.declared.Answer.{Answer}
 use Rattle.session.specs.declared.Answer.the-variants.{Accepted, Coloured, Tried, Refused}
 use Rattle.session.specs.Outcome.{Outcome, accepted, coloured, tried, counted, seen, refused}
 use Rattle.session.specs.Served.{outcomeOf}
-use Rattle.calls.specs.Records.{answerWords, chromaticityWords, colourWords, spaceWord, verdictWord, trialWords, padded, refusedRecord, setWords, answerRecord}
+use Rattle.answers.specs.Answers.{answerWords, chromaticityWords, colourWords, spaceWord, verdictWord, trialWords, padded, refusedRecord, setWords, answerRecord}
 
 -- how long an answer is
 length-padded : (words : List ℕ) → length (padded words) ≡ answerWords

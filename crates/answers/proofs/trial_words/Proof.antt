@@ -1,8 +1,8 @@
--- `calls::answers::trial_words` meets its contract: E and the verdict follow the colour. Assumes nothing.
+-- `answers::trial_words` meets its contract: E and the verdict follow the colour. Assumes nothing.
 use borrow.Author.Needs.{needs}
-use Rattle.calls.proofs.Laid.{trial-laid}
-use Rattle.calls.proofs.answers.trial_words.Statement.{statement}
-use Rattle.calls.proofs.answers.trial_words.Tie as tie
+use Rattle.answers.proofs.Laid.{trial-laid}
+use Rattle.answers.proofs.trial_words.Statement.{statement}
+use Rattle.answers.proofs.trial_words.Tie as tie
 
 returns : tie.Need-returns
 returns c =

@@ -1,11 +1,11 @@
--- `calls::answers::write` meets its contract: all the words of the answer are put. Assumes nothing.
+-- `answers::write` meets its contract: all the words of the answer are put. Assumes nothing.
 use mathlib.Core.Path.{ap, _∙_}
 use mathlib.Core.List.{List}
 use Prim.Native.Nat.{ℕ}
 use borrow.Author.Needs.{needs}
 use lib.Seq.{sets}
-use Rattle.calls.proofs.answers.write.Statement.{statement}
-use Rattle.calls.proofs.answers.write.Tie as tie
+use Rattle.answers.proofs.write.Statement.{statement}
+use Rattle.answers.proofs.write.Tie as tie
 
 returns : tie.Need-returns
 returns c =

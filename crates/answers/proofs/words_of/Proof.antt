@@ -1,12 +1,12 @@
--- `calls::answers::words_of` meets its contract: it takes the cases of the definition. Assumes nothing.
+-- `answers::words_of` meets its contract: it takes the cases of the definition. Assumes nothing.
 use mathlib.Core.Path.{sym, ap, _∙_}
 use borrow.Author.Needs.{needs}
 use Rattle.session.specs.declared.Answer.{Answer}
 use Rattle.session.specs.Served.{outcomeOf}
-use Rattle.calls.specs.Records.{answerRecord}
-use Rattle.calls.proofs.Laid.{laid-accepted, laid-coloured, laid-tried, laid-refused}
-use Rattle.calls.proofs.answers.words_of.Statement.{statement}
-use Rattle.calls.proofs.answers.words_of.Tie as tie
+use Rattle.answers.specs.Answers.{answerRecord}
+use Rattle.answers.proofs.Laid.{laid-accepted, laid-coloured, laid-tried, laid-refused}
+use Rattle.answers.proofs.words_of.Statement.{statement}
+use Rattle.answers.proofs.words_of.Tie as tie
 
 returns : tie.Need-returns
 returns c = laid-accepted (c .before .enum-told .given .1) (c .short-words .ensures)

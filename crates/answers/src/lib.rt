@@ -1,4 +1,4 @@
-// Answers as records of words.
+// Answers as records of thirty-two words. specs/Answers.antt lays them out.
 ghost use mathlib.Core.Path.{_≡_};
 ghost use Prim.Native.Nat.{_≤_};
 ghost use mathlib.Core.List.{[], _∷_, _++_};
@@ -10,7 +10,7 @@ ghost use Rattle.looks.specs.Looked.{seenAnswer};
 ghost use Rattle.session.specs.declared.Answer.the-variants.{Counted};
 ghost use Rattle.session.specs.Outcome.{seen};
 ghost use Rattle.session.specs.Served.{outcomeOf};
-ghost use Rattle.calls.specs.Records.{answerWords, chromaticityWords, spaceWord, verdictWord, colourWords, trialWords, padded, refusedRecord, answerRecord};
+ghost use Rattle.answers.specs.Answers.{answerWords, chromaticityWords, spaceWord, verdictWord, colourWords, trialWords, padded, refusedRecord, answerRecord};
 use causes::Cause;
 use cie::Chromaticity;
 use cie::Colour;

@@ -1,8 +1,8 @@
--- `calls::answers::amount_of` meets its contract: it takes the cases of the definition. Assumes nothing.
+-- `answers::amount_of` meets its contract: it takes the cases of the definition. Assumes nothing.
 use mathlib.Core.Path.{refl}
 use borrow.Author.Needs.{needs}
-use Rattle.calls.proofs.answers.amount_of.Statement.{statement}
-use Rattle.calls.proofs.answers.amount_of.Tie as tie
+use Rattle.answers.proofs.amount_of.Statement.{statement}
+use Rattle.answers.proofs.amount_of.Tie as tie
 
 returns : tie.Need-returns
 returns c = simp (c .before .e .given .1) (refl, refl)

@@ -1,11 +1,11 @@
--- `calls::answers::colour_words` meets its contract: the words of the colour are stored at their places. Assumes nothing.
+-- `answers::colour_words` meets its contract: the words of the colour are stored at their places. Assumes nothing.
 use mathlib.Core.Path.{ap, _∙_}
 use borrow.Author.Needs.{needs}
 use Rattle.signed.proofs.Passed.{survives}
 use Rattle.endian.specs.Bytes.{twos}
-use Rattle.calls.proofs.Laid.{colour-laid}
-use Rattle.calls.proofs.answers.colour_words.Statement.{statement}
-use Rattle.calls.proofs.answers.colour_words.Tie as tie
+use Rattle.answers.proofs.Laid.{colour-laid}
+use Rattle.answers.proofs.colour_words.Statement.{statement}
+use Rattle.answers.proofs.colour_words.Tie as tie
 
 returns : tie.Need-returns
 returns c =

@@ -1,8 +1,8 @@
--- `calls::answers::seen_words` meets its contract: it takes the cases of the definition. Assumes nothing.
+-- `answers::seen_words` meets its contract: it takes the cases of the definition. Assumes nothing.
 use borrow.Author.Needs.{needs}
-use Rattle.calls.proofs.Laid.{laid-previewed, laid-unseen}
-use Rattle.calls.proofs.answers.seen_words.Statement.{statement}
-use Rattle.calls.proofs.answers.seen_words.Tie as tie
+use Rattle.answers.proofs.Laid.{laid-previewed, laid-unseen}
+use Rattle.answers.proofs.seen_words.Statement.{statement}
+use Rattle.answers.proofs.seen_words.Tie as tie
 
 returns : tie.Need-returns
 returns c = laid-previewed (c .before .before .answer .given .1) (c .trial-words .ensures)

@@ -1,9 +1,9 @@
--- `calls::answers::place_of` meets its contract: it takes the cases of the definition. Assumes nothing.
+-- `answers::place_of` meets its contract: it takes the cases of the definition. Assumes nothing.
 use mathlib.Core.Path.{ap, sym}
 use borrow.Author.Needs.{needs}
-use Rattle.calls.specs.Records.{chromaticityWords}
-use Rattle.calls.proofs.answers.place_of.Statement.{statement}
-use Rattle.calls.proofs.answers.place_of.Tie as tie
+use Rattle.answers.specs.Answers.{chromaticityWords}
+use Rattle.answers.proofs.place_of.Statement.{statement}
+use Rattle.answers.proofs.place_of.Tie as tie
 
 returns : tie.Need-returns
 returns c = ap chromaticityWords (sym (c .enum-told .given .1))
