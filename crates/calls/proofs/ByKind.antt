@@ -10,10 +10,10 @@ use Rattle.session.specs.declared.Session.{Session}
 use Rattle.session.specs.declared.Served.{Served}
 use Rattle.session.specs.Call.{Call, open-tables, open-light, set-standard, set-tolerance, trial, report, look}
 use Rattle.session.specs.Meets.{Meets}
-use Rattle.calls.specs.Records.{wordAt, partAt, tablesAt, callOfKind, callOf}
+use Rattle.calls.specs.Records.{wordAt, partAt, Slices, tablesAt, callOfKind, callOf}
 
 -- the first word of a record, as it is read
-pub record Kind (words tables spectra : List ℕ) (kind : ℕ) : Type 0 where
+pub record Kind (words : List ℕ) (slices : Slices) (kind : ℕ) : Type 0 where
   pub first : kind ≡ wordAt words 0
 
 module _ {s : Session} {r : Served} where
@@ -25,47 +25,47 @@ module _ {s : Session} {r : Served} where
       → Meets s (open-tables (tablesOf spacing i x y z)) r → Meets s (open-tables (tablesAt slice words)) r
   opens-tables slice words e p q u v m = meets-as (λ j. open-tables (tablesOf (e j) (p j) (q j) (u j) (v j))) m
 
-  module _ {words tables spectra : List ℕ} {kind : ℕ} (k : Kind words tables spectra kind) where
+  module _ {words : List ℕ} {slices : Slices} {kind : ℕ} (k : Kind words slices kind) where
     -- the call of the kind n, which the arm makes
-    of-kind : (n : ℕ) {c : Call} → kind ≡ n → c ≡ callOfKind n words tables spectra → Meets s c r → Meets s (callOf words tables spectra) r
-    of-kind n e d m = meets-as (d ∙ ap (λ (x : ℕ). callOfKind x words tables spectra) (sym e ∙ k .first)) m
+    of-kind : (n : ℕ) {c : Call} → kind ≡ n → c ≡ callOfKind n words slices → Meets s c r → Meets s (callOf words slices) r
+    of-kind n e d m = meets-as (d ∙ ap (λ (x : ℕ). callOfKind x words slices) (sym e ∙ k .first)) m
 
-    pub by-tables : kind ≡ 1 → Meets s (open-tables (tablesAt tables words)) r → Meets s (callOf words tables spectra) r
+    pub by-tables : kind ≡ 1 → Meets s (open-tables (tablesAt (slices .tables) words)) r → Meets s (callOf words slices) r
     unfolding callOfKind
     by-tables e m = of-kind 1 e refl m
 
     pub by-light : {light spacing : ℕ} → kind ≡ 2 → light ≡ wordAt words 1 → spacing ≡ wordAt words 2 → Meets s (open-light light spacing) r
-        → Meets s (callOf words tables spectra) r
+        → Meets s (callOf words slices) r
     unfolding callOfKind
     by-light e p q m = of-kind 2 e (λ j. open-light (p j) (q j)) m
 
-    pub by-standard : {readings : List ℕ} → kind ≡ 3 → readings ≡ partAt spectra words 1 → Meets s (set-standard readings) r
-        → Meets s (callOf words tables spectra) r
+    pub by-standard : {readings : List ℕ} → kind ≡ 3 → readings ≡ partAt (slices .spectra) words 1 → Meets s (set-standard readings) r
+        → Meets s (callOf words slices) r
     unfolding callOfKind
     by-standard e p m = of-kind 3 e (ap set-standard p) m
 
     pub by-lab : {amount : ℕ} → kind ≡ 4 → amount ≡ wordAt words 1 → Meets s (set-tolerance Cielab amount) r
-        → Meets s (callOf words tables spectra) r
+        → Meets s (callOf words slices) r
     unfolding callOfKind
     by-lab e p m = of-kind 4 e (ap (set-tolerance Cielab) p) m
 
     pub by-luv : {amount : ℕ} → kind ≡ 5 → amount ≡ wordAt words 1 → Meets s (set-tolerance Cieluv amount) r
-        → Meets s (callOf words tables spectra) r
+        → Meets s (callOf words slices) r
     unfolding callOfKind
     by-luv e p m = of-kind 5 e (ap (set-tolerance Cieluv) p) m
 
-    pub by-trial : {table : ℕ} {readings : List ℕ} → kind ≡ 6 → table ≡ wordAt words 3 → readings ≡ partAt spectra words 1
-        → Meets s (trial table readings) r → Meets s (callOf words tables spectra) r
+    pub by-trial : {table : ℕ} {readings : List ℕ} → kind ≡ 6 → table ≡ wordAt words 3 → readings ≡ partAt (slices .spectra) words 1
+        → Meets s (trial table readings) r → Meets s (callOf words slices) r
     unfolding callOfKind
     by-trial e p q m = of-kind 6 e (λ j. trial (p j) (q j)) m
 
-    pub by-preview : {table : ℕ} {readings : List ℕ} → kind ≡ 7 → table ≡ wordAt words 3 → readings ≡ partAt spectra words 1
-        → Meets s (look (preview table readings)) r → Meets s (callOf words tables spectra) r
+    pub by-preview : {table : ℕ} {readings : List ℕ} → kind ≡ 7 → table ≡ wordAt words 3 → readings ≡ partAt (slices .spectra) words 1
+        → Meets s (look (preview table readings)) r → Meets s (callOf words slices) r
     unfolding callOfKind
     by-preview e p q m = of-kind 7 e (λ j. look (preview (p j) (q j))) m
 
     pub by-report : (kind ≡ 1 → ⊥) → (kind ≡ 2 → ⊥) → (kind ≡ 3 → ⊥) → (kind ≡ 4 → ⊥) → (kind ≡ 5 → ⊥) → (kind ≡ 6 → ⊥) → (kind ≡ 7 → ⊥)
-        → Meets s report r → Meets s (callOf words tables spectra) r
+        → Meets s report r → Meets s (callOf words slices) r
     unfolding callOfKind
     by-report n₁ n₂ n₃ n₄ n₅ n₆ n₇ m =
         of-kind kind refl

@@ -13,7 +13,7 @@ use Rattle.causes.specs.Causes.{causeNumber, accepted, refused}
 use Rattle.causes.proofs.Checks.{fires, passes, ends}
 use Rattle.session.specs.Ledger.{emptyLedger, outcomesAt}
 use Rattle.answers.specs.Answers.{answerWords, answerRecords}
-use Rattle.calls.specs.Records.{callCount}
+use Rattle.calls.specs.Records.{Slices, callCount}
 use Rattle.calls.specs.Run.{callsIn, ran, answersAfter}
 
 module _ (records : List ℕ) (room : ℕ) where
@@ -31,13 +31,13 @@ module _ (records : List ℕ) (room : ℕ) where
   unfolding ran
   ran-answered h = passes _ _ _ _ _ (wide h) ∙ ends _ _
 
-module _ (records tables spectra buffer : List ℕ) where
-  pub after-short : length buffer < callCount records * answerWords → answersAfter records tables spectra buffer ≡ buffer
+module _ (records : List ℕ) (slices : Slices) (buffer : List ℕ) where
+  pub after-short : length buffer < callCount records * answerWords → answersAfter records slices buffer ≡ buffer
   unfolding answersAfter
   after-short h = fires _ _ _ _ _ (short records (length buffer) h)
 
   pub after-answered : callCount records * answerWords ≤ length buffer
-      → answersAfter records tables spectra buffer
-      ≡ answerRecords (outcomesAt emptyLedger (callsIn records tables spectra)) ++ drop (answerWords * callCount records) buffer
+      → answersAfter records slices buffer
+      ≡ answerRecords (outcomesAt emptyLedger (callsIn records slices)) ++ drop (answerWords * callCount records) buffer
   unfolding answersAfter
   after-answered h = passes _ _ _ _ _ (wide records (length buffer) h) ∙ ends _ _

@@ -16,39 +16,39 @@ use Rattle.session.specs.Meets.{Meets}
 use Rattle.stores.proofs.Runs.{sets-then, sets-part, sets-front}
 use Rattle.answers.specs.Answers.{answerWords, answerRecord, answerRecords}
 use Rattle.answers.proofs.Laid.{length-answer}
-use Rattle.calls.specs.Records.{callWords, callOf, callAt, callsFrom, callCount}
+use Rattle.calls.specs.Records.{callWords, Slices, callOf, callAt, callsFrom, callCount}
 
 -- the calls from a place are the one there and those after it
-calls-more : (n m : ℕ) (records tables spectra : List ℕ) (at : ℕ) → n ≡ suc m
-    → callsFrom n records tables spectra at ≡ callAt records tables spectra at ∷ callsFrom m records tables spectra (at + callWords)
+calls-more : (n m : ℕ) (records : List ℕ) (slices : Slices) (at : ℕ) → n ≡ suc m
+    → callsFrom n records slices at ≡ callAt records slices at ∷ callsFrom m records slices (at + callWords)
 unfolding callsFrom
-calls-more n m records tables spectra at e = rw e
+calls-more n m records slices at e = rw e
 
-calls-none : (n : ℕ) (records tables spectra : List ℕ) (at : ℕ) → n ≡ 0 → callsFrom n records tables spectra at ≡ []
+calls-none : (n : ℕ) (records : List ℕ) (slices : Slices) (at : ℕ) → n ≡ 0 → callsFrom n records slices at ≡ []
 unfolding callsFrom
-calls-none n records tables spectra at e = rw e
+calls-none n records slices at e = rw e
 
 -- the answers by the ledger l, of so many calls from a place
-module _ (records tables spectra : List ℕ) where
+module _ (records : List ℕ) (slices : Slices) where
   abbrev pub answersFrom : Ledger → ℕ → ℕ → List ℕ
-  answersFrom l n at = answerRecords (outcomesAt l (callsFrom n records tables spectra at))
+  answersFrom l n at = answerRecords (outcomesAt l (callsFrom n records slices at))
 
   answers-more : (l : Ledger) (n m at : ℕ) → n ≡ suc m
       → answersFrom l n at
-      ≡ answerRecord (entered l (callAt records tables spectra at) .outcome)
-      ++ answersFrom (entered l (callAt records tables spectra at) .ledger) m (at + callWords)
+      ≡ answerRecord (entered l (callAt records slices at) .outcome)
+      ++ answersFrom (entered l (callAt records slices at) .ledger) m (at + callWords)
   unfolding answerRecords
-  answers-more l n m at e = ap (λ (cs : List Call). answerRecords (outcomesAt l cs)) (calls-more n m records tables spectra at e)
+  answers-more l n m at e = ap (λ (cs : List Call). answerRecords (outcomesAt l cs)) (calls-more n m records slices at e)
 
   answers-none : (l : Ledger) (n at : ℕ) → n ≡ 0 → answersFrom l n at ≡ []
   unfolding answerRecords
-  answers-none l n at e = ap (λ (cs : List Call). answerRecords (outcomesAt l cs)) (calls-none n records tables spectra at e)
+  answers-none l n at e = ap (λ (cs : List Call). answerRecords (outcomesAt l cs)) (calls-none n records slices at e)
 
   pub length-answers : (l : Ledger) (n at : ℕ) → length (answersFrom l n at) ≡ answerWords * n
   length-answers l zero at = ap length (answers-none l zero at refl)
   length-answers l (suc n) at =
-      let o : Outcome = entered l (callAt records tables spectra at) .outcome in
-      let next : Ledger = entered l (callAt records tables spectra at) .ledger in
+      let o : Outcome = entered l (callAt records slices at) .outcome in
+      let next : Ledger = entered l (callAt records slices at) .ledger in
       ap length (answers-more l (suc n) n at refl) ∙ length-append (answerRecord o) (answersFrom next n (at + callWords))
       ∙ omega (arith, length-answer o, length-answers next n (at + callWords))
 
@@ -70,14 +70,14 @@ module _ (records tables spectra : List ℕ) where
 
     -- k is the length of the part that is lent, ys what the writer leaves there
     pub along-next : {from to left : ℕ} {buffer : List ℕ} {s : Session} {r : Served} (k : ℕ) (ys : List ℕ) → Along from to left buffer s → 0 < left
-        → Meets s (callOf (take (length records - from) (drop from records)) tables spectra) r → to ≤ length buffer → length buffer - to ≡ k
+        → Meets s (callOf (take (length records - from) (drop from records)) slices) r → to ≤ length buffer → length buffer - to ≡ k
         → ys ≡ sets (take k (drop to buffer)) 0 (answerRecord (outcomeOf (r .answer)))
         → Along (from + callWords) (to + answerWords) (left - 1) (take to buffer ++ (ys ++ drop k (drop to buffer))) (r .session)
     along-next {from} {to} {left} {buffer} {s} {r} k ys a h made f g q =
         let l : Ledger = a .ledger in
-        let c : Call = callAt records tables spectra from in
+        let c : Call = callAt records slices from in
         let o : Outcome = entered l c .outcome in
-        let m : Meets s c r = subst (λ (words : List ℕ). Meets s (callOf words tables spectra) r) (rest-lent from) made in
+        let m : Meets s c r = subst (λ (words : List ℕ). Meets s (callOf words slices) r) (rest-lent from) made in
         let more : List ℕ = answersFrom (entered l c .ledger) (left - 1) (from + callWords) in
         record {
           valid = m .valid;

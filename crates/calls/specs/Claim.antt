@@ -8,10 +8,10 @@ use Rattle.session.specs.Outcome.{Outcome}
 use Rattle.session.specs.Ledger.{emptyLedger}
 use Rattle.claims.specs.Claim.{Each, Right}
 use Rattle.answers.specs.Answers.{answerWords, answerRecords}
-use Rattle.calls.specs.Records.{callCount}
+use Rattle.calls.specs.Records.{Slices, callCount}
 use Rattle.calls.specs.Run.{callsIn, answersAfter}
 
-pub record RunRight (records tables spectra buffer : List ℕ) : Type 0 where
+pub record RunRight (records : List ℕ) (slices : Slices) (buffer : List ℕ) : Type 0 where
   pub outcomes : List Outcome
-  pub right : Each Right [] emptyLedger (callsIn records tables spectra) outcomes
-  pub answered : answersAfter records tables spectra buffer ≡ answerRecords outcomes ++ drop (answerWords * callCount records) buffer
+  pub right : Each Right [] emptyLedger (callsIn records slices) outcomes
+  pub answered : answersAfter records slices buffer ≡ answerRecords outcomes ++ drop (answerWords * callCount records) buffer

@@ -44,34 +44,43 @@ wordAt words i = getD words i 0
 abbrev pub partAt : List ℕ → List ℕ → ℕ → List ℕ
 partAt slice words i = partOf slice (wordAt words i) (wordAt words (i + 1))
 
+-- what the lent slices hold: tables, spectra, and the bytes of shade books
+pub record Slices : Type 0 where
+  pub tables : List ℕ
+  pub spectra : List ℕ
+  pub books : List ℕ
+
+abbrev pub slicesOf : List ℕ → List ℕ → List ℕ → Slices
+slicesOf tables spectra books = record { tables = tables; spectra = spectra; books = books }
+
 -- the tables that a record names
 abbrev pub tablesAt : List ℕ → List ℕ → Tables
 tablesAt slice words = tablesOf (wordAt words 9) (partAt slice words 1) (partAt slice words 3) (partAt slice words 5) (partAt slice words 7)
 
 -- the call of a kind, with the other words of its record
-unfoldable pub callOfKind : ℕ → List ℕ → List ℕ → List ℕ → Call
-callOfKind kind words tables spectra =
-    cond (eqb kind 1) (open-tables (tablesAt tables words))
+unfoldable pub callOfKind : ℕ → List ℕ → Slices → Call
+callOfKind kind words slices =
+    cond (eqb kind 1) (open-tables (tablesAt (slices .tables) words))
     (cond (eqb kind 2) (open-light (wordAt words 1) (wordAt words 2))
-    (cond (eqb kind 3) (set-standard (partAt spectra words 1))
+    (cond (eqb kind 3) (set-standard (partAt (slices .spectra) words 1))
     (cond (eqb kind 4) (set-tolerance Cielab (wordAt words 1))
     (cond (eqb kind 5) (set-tolerance Cieluv (wordAt words 1))
-    (cond (eqb kind 6) (trial (wordAt words 3) (partAt spectra words 1))
-    (cond (eqb kind 7) (look (preview (wordAt words 3) (partAt spectra words 1)))
+    (cond (eqb kind 6) (trial (wordAt words 3) (partAt (slices .spectra) words 1))
+    (cond (eqb kind 7) (look (preview (wordAt words 3) (partAt (slices .spectra) words 1)))
     report))))))
 
 -- the call of a record
-abbrev pub callOf : List ℕ → List ℕ → List ℕ → Call
-callOf words tables spectra = callOfKind (wordAt words 0) words tables spectra
+abbrev pub callOf : List ℕ → Slices → Call
+callOf words slices = callOfKind (wordAt words 0) words slices
 
 -- the call whose record begins at a place
-abbrev pub callAt : List ℕ → List ℕ → List ℕ → ℕ → Call
-callAt records tables spectra at = callOf (drop at records) tables spectra
+abbrev pub callAt : List ℕ → Slices → ℕ → Call
+callAt records slices at = callOf (drop at records) slices
 
 -- so many calls, from a place on
-unfoldable pub callsFrom : ℕ → List ℕ → List ℕ → List ℕ → ℕ → List Call
-callsFrom zero records tables spectra at = []
-callsFrom (suc n) records tables spectra at = callAt records tables spectra at ∷ callsFrom n records tables spectra (at + callWords)
+unfoldable pub callsFrom : ℕ → List ℕ → Slices → ℕ → List Call
+callsFrom zero records slices at = []
+callsFrom (suc n) records slices at = callAt records slices at ∷ callsFrom n records slices (at + callWords)
 
 -- how many whole records there are
 abbrev pub callCount : List ℕ → ℕ

@@ -11,11 +11,11 @@ use Rattle.session.specs.Ledger.{emptyLedger, outcomesAt}
 use Rattle.answers.specs.Answers.{answerWords, answerRecords}
 use Rattle.calls.specs.declared.Ran.{Ran}
 use Rattle.calls.specs.declared.Ran.the-variants.{Answered, Refused}
-use Rattle.calls.specs.Records.{callsFrom, callCount}
+use Rattle.calls.specs.Records.{Slices, callsFrom, callCount}
 
 -- the list of calls that the slices hold
-abbrev pub callsIn : List ℕ → List ℕ → List ℕ → List Call
-callsIn records tables spectra = callsFrom (callCount records) records tables spectra 0
+abbrev pub callsIn : List ℕ → Slices → List Call
+callsIn records slices = callsFrom (callCount records) records slices 0
 
 -- 15, short buffer: "shorter than what is to be written"
 abbrev pub runChecks : List ℕ → ℕ → List Check
@@ -31,7 +31,7 @@ unfoldable pub ran : List ℕ → ℕ → Numbered ℕ
 ran records room = numbered (firstOf (runChecks records room)) (callCount records)
 
 -- the answers of the ledger for the list that the slices hold, and the rest of the buffer untouched
-unfoldable pub answersAfter : List ℕ → List ℕ → List ℕ → List ℕ → List ℕ
-answersAfter records tables spectra buffer =
+unfoldable pub answersAfter : List ℕ → Slices → List ℕ → List ℕ
+answersAfter records slices buffer =
     unless (firstOf (runChecks records (length buffer))) (λ _. buffer)
-    (answerRecords (outcomesAt emptyLedger (callsIn records tables spectra)) ++ drop (answerWords * callCount records) buffer)
+    (answerRecords (outcomesAt emptyLedger (callsIn records slices)) ++ drop (answerWords * callCount records) buffer)

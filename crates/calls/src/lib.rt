@@ -1,4 +1,4 @@
-// Runs a whole list of calls that is held in slices: ten words a call, with its tables and spectra as parts of two slices, and
+// Runs a whole list of calls that is held in slices: ten words a call, with its tables, spectra and books as parts of three slices, and
 // thirty-two words for each answer. specs/Records.antt lays a call out, answers/specs/Answers.antt an answer.
 ghost use mathlib.Core.Path.{_≡_};
 ghost use Prim.Native.Nat.{_+_, _<_};
@@ -6,7 +6,7 @@ ghost use lib.ListN.{length};
 ghost use Rattle.session.specs.Call.{open-tables};
 ghost use Rattle.session.specs.Served.{Valid};
 ghost use Rattle.session.specs.Meets.{Meets};
-ghost use Rattle.calls.specs.Records.{callWords, Lies, wordAt, partAt, tablesAt, callOf};
+ghost use Rattle.calls.specs.Records.{callWords, Lies, wordAt, partAt, slicesOf, tablesAt, callOf};
 ghost use Rattle.calls.specs.Run.{runAnswer, ran, answersAfter};
 use causes::Cause;
 use cie::Space;
@@ -104,9 +104,9 @@ fn open_tables(s: Session, words: &[u32], tables: &[u32]) -> Served
 }
 
 // Makes the call of a record.
-pub fn call(s: Session, words: &[u32], tables: &[u32], spectra: &[u16]) -> Served
+pub fn call(s: Session, words: &[u32], tables: &[u32], spectra: &[u16], books: &[u8]) -> Served
     requires { ⌜ Valid s ⌝ }
-    ensures { λ r. ⌜ Meets s (callOf (now (words .entry)) (now (tables .entry)) (now (spectra .entry))) r ⌝ }
+    ensures { λ r. ⌜ Meets s (callOf (now (words .entry)) (slicesOf (now (tables .entry)) (now (spectra .entry)) (now (books .entry)))) r ⌝ }
 {
     match word(words, 0) {
         OPEN_TABLES => open_tables(s, words, tables),
@@ -121,9 +121,15 @@ pub fn call(s: Session, words: &[u32], tables: &[u32], spectra: &[u16]) -> Serve
 }
 
 // Runs the calls from a fresh session, and writes the answer of each into the buffer.
-pub fn run(records: &[u32], tables: &[u32], spectra: &[u16], buffer: &mut [u32]) -> Ran
+pub fn run(
+    records: &[u32],
+    tables: &[u32],
+    spectra: &[u16],
+    books: &[u8],
+    buffer: &mut [u32],
+) -> Ran
     ensures { λ r. ⌜ runAnswer r ≡ ran (now (records .entry)) (length (now (buffer .entry))) ⌝ }
-    ensures { λ _. ⌜ now (buffer .exit) ≡ answersAfter (now (records .entry)) (now (tables .entry)) (now (spectra .entry)) (now (buffer .entry)) ⌝ }
+    ensures { λ _. ⌜ now (buffer .exit) ≡ answersAfter (now (records .entry)) (slicesOf (now (tables .entry)) (now (spectra .entry)) (now (books .entry))) (now (buffer .entry)) ⌝ }
 {
     let n = records.len() / CALL_WORDS;
     if buffer.len() < n * answers::ANSWER_WORDS {
@@ -134,7 +140,7 @@ pub fn run(records: &[u32], tables: &[u32], spectra: &[u16], buffer: &mut [u32])
     let mut to = 0;
     let mut left = n;
     while 0 < left {
-        let served = call(session, &records[from..], tables, spectra);
+        let served = call(session, &records[from..], tables, spectra, books);
         let answer = served.answer;
         session = served.session;
         answers::write(&mut buffer[to..], answer);

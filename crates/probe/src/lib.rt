@@ -5,6 +5,7 @@ ghost use Rattle.book.specs.Reading.{found, placesAfterRead};
 ghost use Rattle.book_writer.specs.Writing.{written, bufferAfterWrite};
 ghost use Rattle.strike.specs.Striking.{struck, bufferAfterStrike};
 ghost use Rattle.pool.specs.Pooling.{pooled, placesAfterPool};
+ghost use Rattle.calls.specs.Records.{slicesOf};
 ghost use Rattle.calls.specs.Run.{ran, answersAfter};
 ghost use Rattle.session.specs.Served.{outcomeOf, Valid};
 ghost use Rattle.probe.specs.Probe.{countCode, causeCode, passedIn, afterTrials, sessionFor, passCount};
@@ -80,12 +81,13 @@ pub extern "C" fn probe_run(
     records: &[u32],
     tables: &[u32],
     spectra: &[u16],
+    books: &[u8],
     buffer: &mut [u32],
 ) -> u64
     ensures { λ r. ⌜ r ≡ countCode (ran (now (records .entry)) (length (now (buffer .entry)))) ⌝ }
-    ensures { λ _. ⌜ now (buffer .exit) ≡ answersAfter (now (records .entry)) (now (tables .entry)) (now (spectra .entry)) (now (buffer .entry)) ⌝ }
+    ensures { λ _. ⌜ now (buffer .exit) ≡ answersAfter (now (records .entry)) (slicesOf (now (tables .entry)) (now (spectra .entry)) (now (books .entry))) (now (buffer .entry)) ⌝ }
 {
-    match calls::run(records, tables, spectra, buffer) {
+    match calls::run(records, tables, spectra, books, buffer) {
         Ran::Answered(count) => count as u64,
         Ran::Refused(cause) => REFUSED + causes::number(cause) as u64,
     }

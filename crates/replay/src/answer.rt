@@ -47,7 +47,7 @@ fn called(session: Session, record: &[u32], entries: &[u32; 34007]) -> Session
 {
     let mut readings = [0u16; STRETCH];
     put_readings(entries, &mut readings);
-    let served = calls::call(session, record, entries, &readings);
+    let served = calls::call(session, record, entries, &readings, b"");
     let answer = served.answer;
     print::print(answer);
     served.session

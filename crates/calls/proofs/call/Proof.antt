@@ -1,14 +1,19 @@
 -- `calls::call` meets its contract: each arm makes the call that the definition has for its kind. Assumes nothing.
 use borrow.Author.Needs.{needs}
+use Rattle.calls.specs.Records.{Slices, slicesOf}
 use Rattle.calls.proofs.ByKind.{Kind, by-tables, by-light, by-standard, by-lab, by-luv, by-trial, by-preview, by-report}
 use Rattle.calls.proofs.call.Statement.{statement}
 use Rattle.calls.proofs.call.Tie as tie
 
 -- the function's entry, from where the first word is read
 abbrev entry : tie.After-word → tie.Start
-entry c = c .before .before .before .before
+entry c = c .before .before .before .before .before
 
-read : (c : tie.After-word) → Kind (entry c .args .words .now) (entry c .args .tables .now) (entry c .args .spectra .now) (c .word .result)
+-- what the slices hold
+abbrev lent : tie.Start → Slices
+lent s = slicesOf (s .args .tables .now) (s .args .spectra .now) (s .args .books .now)
+
+read : (c : tie.After-word) → Kind (entry c .args .words .now) (lent (entry c)) (c .word .result)
 read c = record { first = c .word .ensures }
 
 returns : tie.Need-returns
