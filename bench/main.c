@@ -19,7 +19,7 @@ uint32_t probe_trials(uint32_t light, const uint16_t *standard, size_t standard_
 
 uint64_t probe_run(const uint32_t *records, size_t records_len, const uint32_t *tables,
                    size_t tables_len, const uint16_t *spectra, size_t spectra_len,
-                   uint32_t *buffer, size_t buffer_len);
+                   const uint8_t *books, size_t books_len, uint32_t *buffer, size_t buffer_len);
 
 enum { SPECTRA = 10, AMOUNT = 30000, MARGIN = 12, MILLION = 1000000 };
 
@@ -105,7 +105,7 @@ static uint32_t run_list(int k, uint32_t turns, const uint32_t *opening, const u
     for (uint32_t turn = 0; turn < turns; turn++)
         memcpy(records + (turn + 3) * CALL, (uint32_t[]){TRIAL, ROWS, ROWS, 1},
                4 * sizeof *records);
-    must(probe_run(records, calls * CALL, tables, tables_len, both, 2 * ROWS, answers,
+    must(probe_run(records, calls * CALL, tables, tables_len, both, 2 * ROWS, (const uint8_t *)"", 0, answers,
                    calls * ANSWER) == calls, "a list was refused");
     for (uint32_t turn = 0; turn < turns; turn++) {
         const uint32_t *answer = answers + (turn + 3) * ANSWER;

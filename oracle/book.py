@@ -1,11 +1,10 @@
 """The shade book: writing, the rules of a book, reading one shade."""
 
-from ledger import (
-    FRAME_LIMIT, OVER_BRIGHT, READER_LIMIT, SHORT_TABLE, above, refuse_when, spacing_check,
+from causes import (
+    FRAME_LIMIT, NO_SUCH_SHADE, NOT_A_BOOK, OUT_OF_ORDER, OVER_BRIGHT, READER_LIMIT, SHORT_BUFFER,
+    SHORT_TABLE, TOO_MANY_SHADES, above, refuse_when, spacing_check,
 )
 from tables import LENGTHS
-
-NOT_A_BOOK, NO_SUCH_SHADE, TOO_MANY_SHADES, OUT_OF_ORDER, SHORT_BUFFER = 11, 12, 13, 14, 15
 
 MAGIC = bytes.fromhex("53424B31")
 HEAD = 6

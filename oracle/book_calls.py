@@ -9,7 +9,7 @@ from books import (
     LAST_SHADE, MIXTURES, books_of_note, damaged_book, made, mixed_books, overwrite,
     rising_numbers, wanted, whole_book,
 )
-from ledger import FRAME_LIMIT, READER_LIMIT, Refused
+from causes import FRAME_LIMIT, READER_LIMIT, Refused
 from lines import (
     AROUND_LIMITS, AT_THE_FRAME, OTHER, TOO_BRIGHT, UNKNOWN_SPACINGS, any_spectrum, changed, flat,
 )

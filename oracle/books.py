@@ -5,8 +5,8 @@ from itertools import product
 import book
 import listing
 from book import ENTRY, HEAD, SHADE_LIMIT
+from causes import READER_LIMIT
 from chance import Chance
-from ledger import READER_LIMIT
 from lines import AROUND_LIMITS, IN_A_BOOK, OTHER, any_spectrum, changed, flat
 from near_limit import any_near
 from tables import LENGTHS

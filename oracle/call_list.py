@@ -3,10 +3,13 @@
 from collections import Counter, namedtuple
 
 import exact
+import promise
+from book import shades
 from chance import Chance
 from colour import Colour
 from ledger import Ledger, Preview, Trial
-from replay import READING_BITS, Step, answer, at_table, whole_table
+from nearest import Nearest
+from replay import READING_BITS, Step, answer, at_table, searching, whole_table
 
 Measured = namedtuple("Measured", "conditions spectrum colour")
 
@@ -17,8 +20,9 @@ class CallList:
     def __init__(self, seed):
         self.chance = Chance(seed)
         self.ledger = Ledger()
-        self.lines, self.steps, self.misjudged = [], [], []
+        self.lines, self.steps, self.misjudged, self.misled = [], [], [], []
         self.judged = Counter()  # trials and previews, by verdict, spacing and inspection table
+        self.searched = Counter()  # searches: how they ended, by what count, and why refused
         self.measured = []  # the spectra that were accepted
 
     def say(self, line):
@@ -34,6 +38,8 @@ class CallList:
             table_number, spectrum = at_table(words)
             self.measure(spectrum, step.result.colour)
             self.weigh(step, table_number, spectrum)
+        if line.startswith(b"nearest "):
+            self.follow(step, words)
 
     def measure(self, spectrum, own):
         self.measured.append(Measured(self.ledger.conditions, spectrum, own))
@@ -45,6 +51,20 @@ class CallList:
         if not exact.verdict_holds(
                 verdict, *held.tolerance, held.standard, spectrum, held.conditions):
             self.misjudged.append(step)
+
+    def follow(self, step, words):
+        """Counts a search; one that is answered is misled unless document 02's promise holds."""
+        if not isinstance(step.result, Nearest):
+            self.searched[step.answer] += 1
+            return
+        budget, swatch, data = searching(words)
+        under = self.ledger.conditions
+        held = shades(data, under.spacing)
+        how = promise.ended(step.result, budget, swatch, held, under)
+        if how is None:
+            self.misled.append(step)
+        else:
+            self.searched += promise.counted(step.result, how)
 
     def script(self):
         ending = b"" if self.chance.one_in(4) else b"\n"

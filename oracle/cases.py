@@ -7,8 +7,8 @@ import host
 import listing
 import replay
 from bright import around
+from causes import READER_LIMIT
 from chance import Chance
-from ledger import READER_LIMIT
 from lines import AROUND_LIMITS, IN_A_BOOK, any_spectrum, changed, flat
 from near_limit import any_near, each_near
 from script import script

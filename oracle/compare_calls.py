@@ -24,27 +24,28 @@ def compare_answers(name, steps, got):
 
 
 def compare_list(built, name, made, script):
-    """A list's verdicts by the exact difference, then its answers by the program, then the order of
-    its colours. Returns how many pairs of spectra were in order."""
-    if made.misjudged:
-        step = made.misjudged[0]
-        raise Difference(f"{name}, line {step.number}: the exact difference does not bear out "
-                         f"{step.answer}")
+    """A list's verdicts by the exact difference and its searches by their promise, then its answers
+    by the program, then the order of its colours. Returns how many pairs of spectra were in order
+    and how many searches came to which end."""
+    for steps, what in ((made.misjudged, "the exact difference"), (made.misled, "the promise")):
+        if steps:
+            raise Difference(f"{name}, line {steps[0].number}: {what} does not bear out "
+                             f"{steps[0].answer}")
     compare_answers(name, made.steps, built.replay(script))
-    return check_order(name, made.measured)
+    return check_order(name, made.measured) + made.searched
 
 
 def compare_lists(built, seed, count):
     """Returns the lists' steps by name, how often each verdict came where and how many of them were
-    previews, and how many pairs of spectra were in order."""
-    lists, verdicts, pairs, previews = {}, Counter(), Counter(), 0
+    previews, and what compare_list found."""
+    lists, verdicts, times, previews = {}, Counter(), Counter(), 0
     for index in range(count):
         name, made = f"list, seed {seed}, index {index}", fresh.call_list(seed * 1_000_003 + index)
-        pairs += compare_list(built, name, made, made.script())
+        times += compare_list(built, name, made, made.script())
         lists[name] = made.steps
         verdicts.update(made.judged)
         previews += sum(isinstance(step.result, Preview) for step in made.steps)
-    return lists, f"{told(verdicts)}; previews among them {previews}", pairs
+    return lists, f"{told(verdicts)}; previews among them {previews}", times
 
 
 def told(judged):
@@ -63,29 +64,29 @@ def told(judged):
 
 def compare_orders(built, seed, count):
     """The same trials in other orders end in the same tallies. Returns the lists' steps by name,
-    and how many pairs of spectra were in order."""
-    lists, pairs = {}, Counter()
+    and what compare_list found."""
+    lists, times = {}, Counter()
     for index in range(count):
         name, ends = f"trials in orders, seed {seed}, index {index}", []
         for place, made in enumerate(fresh.reordered(seed * 1_000_003 + index)):
-            pairs += compare_list(built, f"{name}, order {place}", made, made.script())
+            times += compare_list(built, f"{name}, order {place}", made, made.script())
             lists[f"{name}, order {place}"] = made.steps
             ends.append(made.steps[-1].answer)
             expect(f"{name}, order {place}: the report", ends[0], ends[-1])
-    return lists, pairs
+    return lists, times
 
 
 def compare_ordered(built, seed, count):
-    """Lists of spectra in order. Returns their steps by name, and how many pairs were in order."""
+    """Lists of spectra in order. Returns their steps by name, and what compare_list found."""
     given = list(lists_of_note())
     given += [(f"spectra in order, seed {seed}, index {index}",
                *random_list(seed * 1_000_003 + index)) for index in range(count)]
-    lists, pairs = {}, Counter()
+    lists, times = {}, Counter()
     for name, opened, spectra in given:
         made = ordered_list(opened, spectra)
-        pairs += compare_list(built, name, made, made.script())
+        times += compare_list(built, name, made, made.script())
         lists[name] = made.steps
-    return lists, pairs
+    return lists, times
 
 
 def compare_runs(built, seed, lists):

@@ -6,9 +6,10 @@ from inspection import old_trials
 from ledger import GUARD, INSPECTION_TABLES
 from lines import (
     AROUND_LIMITS, NO_SUCH_TABLES, OTHER, REPORT, TOO_LARGE, UNKNOWN_SPACINGS, any_spectrum,
-    changed, few_rows_tables, full_tables, largest_tables, light, near_spectrum, opening, preview,
-    smooth_spectrum, standard, tolerance, trial,
+    changed, few_rows_tables, full_tables, largest_tables, light, near_spectrum, nearest, opening,
+    preview, smooth_spectrum, standard, tolerance, trial,
 )
+from near_books import Palette, any_budget, maybe_no_book, near_book, tied_book
 from near_limit import near_the_limit
 from published import flat, three_rows
 from spacings import old_openings
@@ -133,6 +134,21 @@ class RandomList(CallList):
         while self.steps[-1].result and not self.chance.one_in(3):
             self.say(struck_again(self.chance, spacing, self.steps[-1].result))
 
+    def search_a_book(self):
+        """By some budgets."""
+        swatch = self.a_spectrum()
+        data = maybe_no_book(self.chance, near_book(self.chance, swatch), self.in_force())
+        for _ in range(self.chance.between(1, 3)):
+            self.say(nearest(any_budget(self.chance, data), self.maybe_bad(swatch), data))
+
+    def search_among_ties(self):
+        """Under tables made for it."""
+        palette = Palette(self.chance.pick((5, 10)))
+        self.say(palette.opened)
+        for _ in range(self.chance.between(1, 5)):
+            data = tied_book(self.chance, palette)
+            self.say(nearest(any_budget(self.chance, data), palette.swatch, data))
+
     def judge_at_the_guard(self):
         """A spectrum near the standard, tried and now and then previewed at tolerances at the
         edges of its difference."""
@@ -187,7 +203,8 @@ MOVES = (
     [RandomList.open_light] * 3 + [RandomList.open_tables] * 2 + [RandomList.enter_standard] * 5
     + [RandomList.enter_tolerance] * 4 + [RandomList.enter_trial] * 10 + [RandomList.look] * 5
     + [RandomList.judge_at_the_guard] * 10 + [RandomList.judge_at_the_limit] * 2
-    + [RandomList.pool_spots] * 2 + [RandomList.strike_shades] * 2 + [RandomList.say_report] * 2
+    + [RandomList.pool_spots] * 2 + [RandomList.strike_shades] * 2 + [RandomList.search_a_book] * 4
+    + [RandomList.search_among_ties] * 2 + [RandomList.say_report] * 2
     + [RandomList.say_unreadable] + [RandomList.damage_a_line]
 )
 

@@ -1,12 +1,11 @@
 """A session in which one inspection table is filled with trials and the others go on."""
 
 import replay
+from book import book_bytes
+from causes import NO_STANDARD, NO_SUCH_TABLE, OVER_BRIGHT, SESSION_FULL, SHORT_TABLE
 from inspection import READINGS, settings, swatches, wrong_swatches
-from ledger import (
-    INSPECTION_TABLES, NO_STANDARD, NO_SUCH_TABLE, OVER_BRIGHT, SESSION_FULL, SHORT_TABLE,
-    TALLY_LIMIT,
-)
-from lines import REPORT, preview, seen_at, seen_nowhere, trial
+from ledger import INSPECTION_TABLES, TALLY_LIMIT
+from lines import REPORT, nearest, preview, seen_at, seen_nowhere, trial
 
 
 def answers(lines):
@@ -30,6 +29,9 @@ class FullSession:
         self.settings = list(zip(opened, answers(opened)))
         self.swatches = dict(zip(READINGS, swatches(spacing)))
         self.wrong = wrong_swatches(spacing)
+        passing, failing = self.swatches["pass"], self.swatches["fail"]
+        book = book_bytes([(7, failing), (300, passing)])
+        self.search = nearest(1, passing, book), "nearest 1 300 0 0"
         self.verdicts = {verdict: answers([*opened, trial(table_number, swatch)])[-1]
                          for verdict, swatch in self.swatches.items()}
         self.head = [*self.settings, *(self.tried(self.full, verdict)
@@ -59,14 +61,16 @@ class FullSession:
             *(self.tried(number, "pass") for number in self.others),
             self.tallies(almost, (1, 0, 0)), self.seen(self.full, "pass"),
             self.seen(self.full, "line"), self.tallies(almost, (1, 0, 0)),
-            self.tried(self.full, "fail"), self.tallies((TALLY_LIMIT - 3, 2, 1), (1, 0, 0)),
+            self.search, self.tried(self.full, "fail"),
+            self.tallies((TALLY_LIMIT - 3, 2, 1), (1, 0, 0)),
         ]
 
     def refusals(self):
-        """At the full table whatever the spectrum is; a number that is like its own is none."""
+        """At the full table whatever the spectrum is; a number that is like its own is none. A
+        search is none of a table's calls."""
         given, full = (*self.swatches.values(), *self.wrong), self.full
         like = 0, 9, full + 8, full + 2**8, full + 2**32, full + 2**64
-        return [*refused(SESSION_FULL, seen_at(full, *given)),
+        return [*refused(SESSION_FULL, seen_at(full, *given)), self.search,
                 *refused(NO_SUCH_TABLE, seen_nowhere(*given, numbers=like))]
 
     def elsewhere(self):
@@ -84,7 +88,8 @@ class FullSession:
         opened, *others = self.settings
         swatch = self.swatches["pass"]
         return [
-            opened, *refused(NO_STANDARD, seen_at(self.full, swatch, *self.wrong)),
+            opened, self.search,
+            *refused(NO_STANDARD, seen_at(self.full, swatch, *self.wrong)),
             *refused(NO_SUCH_TABLE, seen_nowhere(swatch)),
             *others, *refused(SESSION_FULL, seen_at(self.full, swatch, *self.wrong)),
             *(self.tried(number, "pass") for number in self.others),

@@ -1,10 +1,12 @@
 """What the C call shade_colour returns, and what it leaves in the lent buffer."""
 
-from book import SHORT_BUFFER, body_length, readings
-from colour import colour
-from ledger import (
-    NO_SUCH_LIGHT, OVER_BRIGHT, READER_LIMIT, SHORT_TABLE, Refused, above, built_in, refuse_when,
+from book import body_length, readings
+from causes import (
+    NO_SUCH_LIGHT, OVER_BRIGHT, READER_LIMIT, SHORT_BUFFER, SHORT_TABLE, Refused, above,
+    refuse_when,
 )
+from colour import colour
+from ledger import built_in
 from tables import LENGTHS, LIGHTS
 
 ANSWER = 20

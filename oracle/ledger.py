@@ -5,15 +5,16 @@ Every call returns its answer or raises Refused; a refusal leaves the ledger as 
 
 from collections import namedtuple
 
+from book import shades
+from causes import (
+    DARK_WHITE, EMPTY_LOOK, FRAME_LIMIT, LOPSIDED_WHITE, NO_CONDITIONS, NO_STANDARD, NO_SUCH_LIGHT,
+    NO_SUCH_TABLE, NO_TOLERANCE, NOT_A_BOOK, OFF_SCALE_CONDITION, OVER_BRIGHT, SESSION_FULL,
+    SHORT_TABLE, TOLERANCE_OFF_SCALE, above, refuse_when, spacing_check,
+)
 from colour import colour, conditions, difference
+from nearest import search
 from tables import LENGTHS, LIGHTS, light_tables
 
-SHORT_TABLE, OVER_BRIGHT, OFF_SCALE_CONDITION, DARK_WHITE, LOPSIDED_WHITE = 1, 2, 3, 4, 5
-NO_CONDITIONS, NO_STANDARD, NO_TOLERANCE, TOLERANCE_OFF_SCALE, SESSION_FULL = 6, 7, 8, 9, 10
-NO_SUCH_LIGHT, UNKNOWN_SPACING, NO_SUCH_TABLE, SPOT_COUNT = 16, 17, 18, 19
-
-FRAME_LIMIT = 12_000  # of readings measured in a session, written into a book or pooled
-READER_LIMIT = 20_000  # of readings in a book that is read, listed or struck, and in a host call
 ILLUMINANT_LIMIT = 3_000_000
 OBSERVER_LIMIT = 2_000_000
 TOLERANCE_LIMIT = 1_000_000
@@ -26,28 +27,6 @@ VERDICTS = ("pass", "fail", "line")
 Tolerance = namedtuple("Tolerance", "space amount")
 Trial = namedtuple("Trial", "verdict difference colour")
 Preview = namedtuple("Preview", "verdict difference colour")
-
-
-class Refused(Exception):
-    def __init__(self, cause):
-        super().__init__(cause)
-        self.cause = cause
-
-
-def refuse_when(*checks):
-    """Runs (cause, condition) pairs in order; the first condition that holds refuses."""
-    for cause, condition in checks:
-        if condition():
-            raise Refused(cause)
-
-
-def spacing_check(spacing):
-    """The first check of every call that names a spacing."""
-    return UNKNOWN_SPACING, lambda: spacing not in LENGTHS
-
-
-def above(limit, readings):
-    return any(reading > limit for reading in readings)
 
 
 def spectrum_checks(spectrum, under):
@@ -139,6 +118,19 @@ class Ledger:
 
     def preview(self, table_number, spectrum):
         return Preview(*self.work_out(table_number, spectrum))
+
+    def nearest(self, budget, swatch, data):
+        """Of the shades of a book of the spacing in force; nothing is entered or counted."""
+        refuse_when(
+            (NO_CONDITIONS, lambda: self.conditions is None),
+            *spectrum_checks(swatch, self.conditions),
+        )
+        held = shades(data, self.conditions.spacing)
+        refuse_when(
+            (NOT_A_BOOK, lambda: held is None),
+            (EMPTY_LOOK, lambda: not held or budget == 0),
+        )
+        return search(budget, swatch, held, self.conditions)
 
     def report(self):
         """The tallies of all inspection tables, one table after the other."""

@@ -1,7 +1,8 @@
 """Lines of a replay script, and spectra and tables to fill them."""
 
+from causes import FRAME_LIMIT, READER_LIMIT
 from colour import colour, difference
-from ledger import FRAME_LIMIT, GUARD, INSPECTION_TABLES, READER_LIMIT
+from ledger import GUARD, INSPECTION_TABLES
 from published import filled, flat
 from tables import LENGTHS
 
@@ -32,6 +33,10 @@ def trial(table_number, spectrum):
 
 def preview(table_number, spectrum):
     return f"preview {table_number} {counted(spectrum)}".encode()
+
+
+def nearest(budget, swatch, data):
+    return f"nearest {budget} {counted(swatch)} {data.hex()}".encode()
 
 
 REPORT = b"report"

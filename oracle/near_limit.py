@@ -7,8 +7,8 @@ straight piece of f, or L by it, is just a whole number.
 from bisect import bisect_left
 from functools import lru_cache
 
+from causes import FRAME_LIMIT
 from colour import conditions, cube_root_down, f_step, lightness, sums
-from ledger import FRAME_LIMIT
 from lines import light, opening, smooth_spectrum
 from published import filled
 from tables import LENGTHS, light_tables

@@ -1,15 +1,18 @@
 """Records of calls of every odd kind: words that nobody meant, numbers of no inspection table,
-parts at the end of a slice and past it, buffers that are too short."""
+parts at the end of a slice and past it, budgets of every size, buffers that are too short."""
 
 from array import array
 from functools import partial
+from itertools import product
 
+from book import book_bytes, total
 from ledger import INSPECTION_TABLES
 from lines import NO_SUCH_TABLES, OTHER, any_spectrum, by_turns, changed
+from near_books import near_book, near_shades
 from published import flat, three_rows
 from records import (
-    ANSWER_WORDS, CALL_WORDS, OPEN_TABLES, PREVIEW, READING, STANDARD, TRIAL, WORD, WORD_BYTES,
-    WORD_LIMIT, Recorder, Run, answers_size, any_words, call_count, put,
+    ANSWER_WORDS, BYTE, CALL_WORDS, NEAREST, OPEN_TABLES, PREVIEW, READING, STANDARD, TRIAL, WORD,
+    WORD_BYTES, WORD_LIMIT, Recorder, Run, answers_size, any_words, call_count, put,
 )
 from tables import LENGTHS
 
@@ -18,7 +21,7 @@ def empty_lists(chance):
     """No record, or no whole one, with and without a buffer."""
     for records in (array(WORD), any_words(chance, CALL_WORDS - 1)):
         for lent in (b"", chance.bytes(WORD_BYTES * ANSWER_WORDS)):
-            yield Run(records, array(WORD), array(READING), lent)
+            yield Run(records, array(WORD), array(READING), array(BYTE), lent)
 
 
 def ends(size, rows):
@@ -48,6 +51,28 @@ def parts_at_the_end(chance, spacing):
         for words in (*ends(len(held.tables), rows), *ends(len(held.tables), other)):
             parts = changed(whole, place, words)
             held.write(OPEN_TABLES, *(word for table in parts for word in table), spacing)
+    return held.run()
+
+
+def searches_at_the_end(chance, spacing):
+    """Books that stand one after another; the swatch, then the book, as parts at the end of their
+    slice, with the length of that spacing and of the other; budgets of every size."""
+    held, rows, other = Recorder(chance), LENGTHS[spacing], OTHER[spacing]
+    swatch = any_spectrum(chance, spacing)
+    own, _ = (put(held.spectra, swatch) for _ in range(2))
+    shades = list(enumerate(near_shades(chance, swatch, 3), 1))
+    books = [put(held.books, book_bytes(shades[:count])) for count in (1, 0, 2, 3)]
+    parts = [(own, words) for words in books]
+    parts += [(words, books[-1]) for count in (rows, LENGTHS[other])
+              for words in ends(len(held.spectra), count)]
+    parts += [(own, words) for length in (total(spacing, 3), total(other, 3), total(spacing, 0))
+              for words in ends(len(held.books), length)]
+    held.write(NEAREST, *own, *books[0], 7)
+    held.open_light(1, spacing)
+    for (readings, data), budget in product(parts, (0, 7)):
+        held.write(NEAREST, *readings, *data, budget)
+    for budget in (1, 2, 3, 4, 2**8, 2**16, 2**16 + 1, 2**31, WORD_LIMIT - 1):
+        held.write(NEAREST, *own, *books[-1], budget)
     return held.run()
 
 
@@ -86,7 +111,9 @@ def any_run(chance, limit):
     held = Recorder(chance)
     held.records.extend(chance.below(limit) for _ in range(100 * CALL_WORDS + 1))
     held.tables.extend(chance.below(limit) for _ in range(4 * LENGTHS[5]))
-    put(held.spectra, any_spectrum(chance))
+    swatch = any_spectrum(chance)
+    put(held.spectra, swatch)
+    put(held.books, near_book(chance, swatch))
     return held.run()
 
 
@@ -95,6 +122,7 @@ def odd_runs(chance, runs):
     yield from empty_lists(chance)
     for spacing in LENGTHS:
         yield parts_at_the_end(chance, spacing)
+        yield searches_at_the_end(chance, spacing)
     yield at_every_table(chance)
     for limit in (CALL_WORDS + 1, LENGTHS[5] + 1, WORD_LIMIT):
         yield any_run(chance, limit)

@@ -8,10 +8,11 @@ from collections import Counter, defaultdict
 from itertools import permutations
 
 from call_list import CallList
+from causes import FRAME_LIMIT
 from chance import Chance
 from colour import above_limit, cube_root_down, sums
 from expect import Difference
-from ledger import FRAME_LIMIT, Ledger
+from ledger import Ledger
 from lines import (
     any_spectrum, by_turns, changed, full_tables, light, opening, preview, standard, tolerance,
     trial,

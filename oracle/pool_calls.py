@@ -6,7 +6,7 @@ from collections import namedtuple
 
 import pooling
 from book_calls import UNKNOWN
-from ledger import FRAME_LIMIT, READER_LIMIT, Refused
+from causes import FRAME_LIMIT, READER_LIMIT, Refused
 from lines import AROUND_LIMITS, AT_THE_FRAME, OTHER, TOO_BRIGHT, any_spectrum, changed, flat
 from pooling import SPOT_COUNTS
 from spots import NO_SPOT_COUNTS, every_remainder, one_after_another

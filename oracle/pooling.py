@@ -1,6 +1,6 @@
 """Pile fabric is measured at several spots, which are pooled into one spectrum."""
 
-from ledger import (
+from causes import (
     FRAME_LIMIT, OVER_BRIGHT, SHORT_TABLE, SPOT_COUNT, above, refuse_when, spacing_check,
 )
 from tables import LENGTHS

@@ -1,28 +1,31 @@
-"""Lists of calls held in slices, and their answers, as crates/calls/specs/Records.antt lays them
-out: ten words a call, its tables and spectra as parts of two slices, thirty-two words an answer."""
+"""Lists of calls held in slices, and their answers, as crates/calls/specs/Records.antt and
+crates/answers/specs/Answers.antt lay them out: ten words a call, its tables, spectra and book as
+parts of three slices, thirty-two words an answer."""
 
 from array import array
 from collections import namedtuple
 
 import replay
-from book import SHORT_BUFFER
 from book_calls import REFUSAL
+from causes import SHORT_BUFFER, Refused
 from colour import Colour
-from ledger import INSPECTION_TABLES, VERDICTS, Ledger, Preview, Refused, Trial
+from ledger import INSPECTION_TABLES, VERDICTS, Ledger, Preview, Trial
+from nearest import Nearest
 
 CALL_WORDS, ANSWER_WORDS, COLOUR_WORDS = 10, 32, 13
 TALLY_WORDS = len(INSPECTION_TABLES) * len(VERDICTS)
-OPEN_TABLES, OPEN_LIGHT, STANDARD, TOLERANCE_LAB, TOLERANCE_LUV, TRIAL, PREVIEW = range(1, 8)
-ACCEPTED, COLOURED, TRIED, COUNTED, REFUSED, PREVIEWED = range(6)
+OPEN_TABLES, OPEN_LIGHT, STANDARD, TOLERANCE_LAB, TOLERANCE_LUV = range(1, 6)
+TRIAL, PREVIEW, NEAREST = range(6, 9)
+ACCEPTED, COLOURED, TRIED, COUNTED, REFUSED, PREVIEWED, FOUND = range(7)
 JUDGED = {TRIED: Trial, PREVIEWED: Preview}
 SPACES = ("lab", "luv")
 
-WORD, READING = "I", "H"  # array's letters for 32 and 16 bits
+WORD, READING, BYTE = "I", "H", "B"  # array's letters for 32, 16 and 8 bits
 WORD_BYTES = 4
 WORD_LIMIT = 2**32
 
-# The records and both slices as arrays; the buffer that is lent, as bytes.
-Run = namedtuple("Run", "records tables spectra lent")
+# The records and the three slices as arrays; the buffer that is lent, as bytes.
+Run = namedtuple("Run", "records tables spectra books lent")
 
 
 def any_words(chance, count):
@@ -42,7 +45,7 @@ def named(run):
     """What a run is, in few words."""
     words = run.records[:2 * CALL_WORDS].tolist()
     return (f"{len(run.records)} words {words}.., {len(run.tables)} entries, {len(run.spectra)} "
-            f"readings, into {len(run.lent)} bytes")
+            f"readings, {len(run.books)} bytes of books, into {len(run.lent)} bytes")
 
 
 # Laying calls out
@@ -51,8 +54,8 @@ class Recorder:
     """Stands in a ledger's place, and writes each call down as a record."""
 
     def __init__(self, chance):
-        self.chance = chance
-        self.records, self.tables, self.spectra = array(WORD), array(WORD), array(READING)
+        self.chance, self.records = chance, array(WORD)
+        self.tables, self.spectra, self.books = array(WORD), array(READING), array(BYTE)
 
     def write(self, kind, *words):
         """Words that a call does not name may hold anything."""
@@ -78,17 +81,20 @@ class Recorder:
     def preview(self, table_number, spectrum):
         self.write(PREVIEW, *put(self.spectra, spectrum), table_number)
 
+    def nearest(self, budget, swatch, data):
+        self.write(NEAREST, *put(self.spectra, swatch), *put(self.books, data), budget)
+
     def report(self):
-        self.write(self.chance.pick((0, PREVIEW + 1, WORD_LIMIT - 1)))
+        self.write(self.chance.pick((0, NEAREST + 1, WORD_LIMIT - 1)))
 
     def run(self, spare=0):
         """The list so far, with a buffer that has room for its answers and some words to spare."""
-        held = Run(self.records, self.tables, self.spectra, b"")
+        held = Run(self.records, self.tables, self.spectra, self.books, b"")
         return held._replace(lent=self.chance.bytes(answers_size(held) + WORD_BYTES * spare))
 
 
 def put(held, entries):
-    """Puts a table into its slice, and says where it starts and how long it is."""
+    """Puts a table or a book into its slice, and says where it starts and how long it is."""
     held.extend(entries)
     return len(held) - len(entries), len(entries)
 
@@ -143,6 +149,9 @@ def call(ledger, run, at):
         return ledger.trial(words[2], part(run.spectra, *words[:2]))
     if kind == PREVIEW:
         return ledger.preview(words[2], part(run.spectra, *words[:2]))
+    if kind == NEAREST:
+        swatch, data = part(run.spectra, *words[:2]), bytes(part(run.books, *words[2:4]))
+        return ledger.nearest(words[4], swatch, data)
     return ledger.report()
 
 
@@ -164,6 +173,8 @@ def answer_words(result, space):
                  VERDICTS.index(result.verdict)]
     elif isinstance(result, Colour):
         words = [COLOURED, *colour_words(result)]
+    elif isinstance(result, Nearest):
+        words = [FOUND, *result]
     else:
         words = [COUNTED, *result]
     return words + [0] * (ANSWER_WORDS - len(words))
@@ -205,6 +216,8 @@ def result_of(words):
         return judged, SPACES[space % len(SPACES)]
     if kind == COUNTED:
         return tuple(told[:TALLY_WORDS]), None
+    if kind == FOUND:
+        return Nearest(*told[:len(Nearest._fields)]), None
     return (Refused(told[0]) if kind == REFUSED else None), None
 
 

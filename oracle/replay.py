@@ -7,11 +7,11 @@ Rules where the design's text is silent:
 - A number is one or more of the digits 0 to 9; leading zeros are allowed, signs are not. One too
   large for its place counts as the largest that fits there: readings and shade numbers have 16
   bits; entries of an opening's tables, the tolerance's amount, the light number, the spacing, the
-  number of an inspection table and the number of spots have 32; a length has 64.
+  number of an inspection table, the number of spots and a budget have 32; a length has 64.
 - An opening's table, a spectrum or the spots of a pooling have any length, 0 included, but as many
   numbers must follow as it says.
-- The buffer of a strike is one word of hexadecimal digits, 0 to 9 and a to f, two for each byte; it
-  has any length, but at least one byte.
+- The buffer of a strike and the book of a search are one word of hexadecimal digits, 0 to 9 and a
+  to f, two for each byte; it has any length, but at least one byte.
 - A pooling and a strike are no calls of the session, and may stand anywhere. The places that a
   pooling is lent have the rows of its spacing.
 - A line that was a call in the form of an earlier job is read in the form of today: where its
@@ -21,19 +21,23 @@ Any other line is unreadable and is no call.
 
 from collections import namedtuple
 
+from causes import Refused
 from colour import Colour
-from ledger import Ledger, Preview, Refused, Trial
+from ledger import Ledger, Preview, Trial
+from nearest import Nearest
 from pooling import pool
 from striking import strike
 from tables import LENGTHS
 
 READING_BITS, SHADE_BITS, LENGTH_BITS = 16, 16, 64
-ENTRY_BITS = 32  # also of an amount, a light, a spacing, an inspection table and a spot count
+ENTRY_BITS = 32  # also of an amount, a light, a spacing, an inspection table, a number of spots
+                 # and a budget
 
 HEX_DIGITS = b"0123456789abcdef"
 
-# result is what the ledger returned: None, a Colour, a Trial, a Preview or the tallies; or the
-# Spectrum of a pooling, or what is Struck: the length of the book that is left, and the buffer.
+# result is what the ledger returned: None, a Colour, a Trial, a Preview, a Nearest or the tallies;
+# or the Spectrum of a pooling, or what is Struck: the length of the book that is left, and the
+# buffer.
 Step = namedtuple("Step", "number line answer result")
 Spectrum = namedtuple("Spectrum", "readings")
 Struck = namedtuple("Struck", "length buffer")
@@ -97,6 +101,15 @@ def buffer_bytes(word):
     return bytearray.fromhex(word.decode())
 
 
+def searching(words):
+    """The budget, the swatch and the bytes of the book of a search."""
+    budget = so_many(1, words[:1])
+    swatch, rest = table(words[1:], READING_BITS)
+    if len(rest) != 1:
+        raise Unreadable
+    return *budget, swatch, bytes(buffer_bytes(rest[0]))
+
+
 def pooling(words):
     spacing, count = so_many(2, words[:2])
     readings = whole_table(words[2:], READING_BITS)
@@ -139,6 +152,8 @@ def call(ledger, line):
         return ledger.trial(*at_table(words))
     if name == b"preview":
         return ledger.preview(*at_table(words))
+    if name == b"nearest":
+        return ledger.nearest(*searching(words))
     if name == b"report" and not words:
         return ledger.report()
     raise Unreadable
@@ -155,6 +170,8 @@ def answer_text(result):
         return f"{result.verdict} {result.difference} {numbers(result.colour)}"
     if isinstance(result, Colour):
         return f"colour {numbers(result)}"
+    if isinstance(result, Nearest):
+        return f"nearest {numbers(result)}"
     if isinstance(result, Spectrum):
         return f"spectrum {numbers([len(result.readings), *result.readings])}"
     if isinstance(result, Struck):

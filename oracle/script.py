@@ -3,11 +3,12 @@
 from functools import partial
 
 from bright import around_the_limits, shades_as_standards
+from causes import FRAME_LIMIT
 from inspection import (
     each_tally, each_verdict, no_such_table, old_trials, previews_not_counted, refused_not_counted,
     reordered,
 )
-from ledger import FRAME_LIMIT, built_in, from_tables
+from ledger import built_in, from_tables
 from limit import around_the_limit
 from lines import (
     NO_SUCH_TABLES, OTHER, REPORT, TOO_BRIGHT, TOO_LARGE, any_spectrum, by_turns, changed,
@@ -18,6 +19,7 @@ from lines import (
 from published import (
     EQUAL_ENERGY_TABLES, THREE_ROWS, dark_between_tables, filled, flat, ratio_spectrum, three_rows,
 )
+from searches import no_settings, searches, wrong_looks
 from spacings import (
     changes, every_length, left_in_force, old_openings, refused_openings, unknown_spacings,
 )
@@ -33,12 +35,12 @@ def nothing_opened():
     """And nothing is, after openings that are refused."""
     shades = flat(1_250), flat(1_250, 10), SHORT_AND_BRIGHT
     return [
-        REPORT, b"", *map(standard, shades), *seen_by_turns(*shades),
+        REPORT, b"", *map(standard, shades), *seen_by_turns(*shades), *wrong_looks(10),
         *seen_nowhere(*shades), *seen_nowhere([], numbers=NO_SUCH_TABLES),
         tolerance("lab", 1_000_001), tolerance("luv", TOO_LARGE),
         *(light(number) for number in (0, 3, 2**32 - 1, 2**32, 2**32 + 1, 2**64 + 1, TOO_LARGE)),
         *refused_openings(5), *refused_openings(10), *map(standard, shades),
-        *seen_by_turns(*shades), *seen_nowhere([]), REPORT,
+        *seen_by_turns(*shades), *seen_nowhere([]), *no_settings(5), *no_settings(10), REPORT,
     ]
 
 
@@ -103,7 +105,8 @@ def no_tolerance():
     shade = flat(1_250, 10)
     swatches = shade, flat(1_250), SHORT_AND_BRIGHT, flat(TOO_BRIGHT, 10)
     return [light(2, 10), *seen_at(8, flat(TOO_BRIGHT)), *seen_nowhere(shade, flat(TOO_BRIGHT)),
-            standard(shade), *seen_by_turns(*swatches), *seen_nowhere(*swatches), REPORT]
+            *no_settings(5), *no_settings(10), standard(shade), *no_settings(10),
+            *seen_by_turns(*swatches), *seen_nowhere(*swatches), REPORT]
 
 
 def order_of_checks(spacing, table_number):
@@ -228,6 +231,6 @@ def script(chance, shades):
         *edge_tables(chance, 5), *edge_tables(chance, 10), *marked_examples(5),
         *marked_examples(10), *around_the_limit(5), *around_the_limit(10), *whites(),
         *printed_tables(), *lots(chance), *poolings(), *strikes(),
-        *old_trials(), *old_openings(), *unreadable(), REPORT,
+        *searches(), *old_trials(), *old_openings(), *unreadable(), REPORT,
     ]
     return b"\n".join(said)

@@ -10,8 +10,8 @@ from books import (
     LAST_SHADE, MIXTURES, books_of_note, damaged_book, made, mixed_books, overwrite,
     rising_numbers, wanted, whole_book,
 )
+from causes import Refused
 from expect import expect
-from ledger import Refused
 from lines import OTHER, changed, flat
 from strikes import AROUND_BOTH_LIMITS, SMALL, numbers_near
 from tables import LENGTHS

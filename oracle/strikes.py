@@ -6,8 +6,8 @@ from book import ENTRY, HEAD, SHADE_LIMIT, body_length, body_offset, book_bytes,
 from books import (
     LAST_SHADE, books_of_note, damaged_book, made, mixed_books, overwrite, rising_numbers, wanted,
 )
+from causes import READER_LIMIT
 from chance import Chance
-from ledger import READER_LIMIT
 from lines import (
     AROUND_LIMITS, OTHER, REPORT, TOO_LARGE, UNKNOWN_SPACINGS, any_spectrum, changed, flat, light,
     preview, standard, tolerance, trial,

@@ -1,7 +1,7 @@
 """Mills drop shades each season: a shade is struck from a book, in place."""
 
-from book import NO_SUCH_SHADE, NOT_A_BOOK, book_bytes, shades
-from ledger import refuse_when, spacing_check
+from book import book_bytes, shades
+from causes import NO_SUCH_SHADE, NOT_A_BOOK, refuse_when, spacing_check
 
 
 def strike(spacing, number, buffer):

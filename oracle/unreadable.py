@@ -7,6 +7,7 @@ from published import THREE_ROWS, flat
 ZEROS, ONE_SHORT = counted(flat(0)), counted(flat(0))[:-2]  # with their number
 EMPTY_BOOK = book_bytes([]).hex()
 ONE_SHADE = book_bytes([(7, flat(1_250, 10))]).hex()  # shade 7, at 10 nm
+NO_DIGITS = "/:@AFG`gx.\t\0\xb5"  # next to a digit, or like one
 
 
 def no_trials(word):
@@ -77,7 +78,7 @@ def no_strikes():
         f" 10 7 {ONE_SHADE.upper()}", f" 10 7 {ONE_SHADE[:-1]}", f" 10 7 {ONE_SHADE}0",
         f" 10 7 {ONE_SHADE} ", f" 10 7 {ONE_SHADE[:-1]}x", f" 10 7 {ONE_SHADE[:-1]}F",
         *(f" 5 7 {empty[:at]}{other}{empty[at + 1:]}"
-          for other in "/:@AFG`gx.\t\0\xb5" for at in (0, 7, 11)),
+          for other in NO_DIGITS for at in (0, 7, 11)),
     )] + [f"{line} {empty}".encode() for line in (
         "Strike 5 7", "strik 5 7", " strike 5 7", "5 strike 7", "struck 5 7", "struck 6",
     )]
@@ -93,6 +94,54 @@ def odd_strikes():
         f" 10 7 00{book}", f" 10 7 {book[:-2]}", f" 10 7 {book}", f" 010 007 {book}",
         f" {'0' * 40}10 {'0' * 40}7 {book}",
     )]
+
+
+def no_searches():
+    """Lines that begin with the word of a search and are none: also with too few readings and too
+    many for their number, where the book would be one of them or one is left."""
+    empty, level = EMPTY_BOOK, counted(flat(1_250, 10))
+    return [f"nearest{rest}".encode("latin-1") for rest in (
+        "", " ", " 5", " 5 ", " 5 0", " 5 0 ", " 5 1 7", " 5 1 7 ", " 5 0 7 1234", " 5 2 7 1234",
+        f" {empty}", f" 5 {empty}", f" 5 7 {empty}", f" 5 1 {empty}", f" 5 0 7 {empty}",
+        f" 5 2 7 {empty}", f" 5 1 7 7 {empty}", f" 1 7 {empty}", f" 5 5 1 7 {empty}",
+        f" {empty} 5 1 7", f" 5 {empty} 1 7", f" 1 7 5 {empty}", f" 5 1 7 {empty} ",
+        f" 5 1 7 {empty}\r", f" 5 1 7 {empty}\0", f" 5 1 7 {empty} 7", f" 5 1 7 {empty} {empty}",
+        f" 5 1 7 12 {empty}", f"  5 1 7 {empty}", f" 5  1 7 {empty}", f" 5 1  7 {empty}",
+        f" 5 1 7  {empty}", f"\t5 1 7 {empty}", f" 5\t1 7 {empty}", f" 5 1\t7 {empty}",
+        f" 5 1 7\t{empty}", f" 5 1 7 {empty}\t", f"5 1 7 {empty}", f" 5 1 7{empty}",
+        f" -5 1 7 {empty}", f" 5 -1 7 {empty}", f" 5 1 -7 {empty}", f" 5 1 7 -{empty[1:]}",
+        f" +5 1 7 {empty}", f" 5 +1 7 {empty}", f" 5 1 +7 {empty}", f" 5 1 7 +{empty[1:]}",
+        *(f" {word} 1 7 {empty}" for word in ("five", "5.0", "0x5", "a", "5,", "\xd9\xa5", "\xff")),
+        *(f" 5 {word} 7 {empty}" for word in ("one", "1.0", "0x1", "a", "1,", "\xd9\xa1", "\xff")),
+        *(f" 5 1 {word} {empty}" for word in ("x", "7.0", "0x7", "a", "7,", "\xd9\xa7", "\xff")),
+        f"s 5 1 7 {empty}", f" lab 5 1 7 {empty}", f" 5 lab 1 7 {empty}", f" nearest 5 1 7 {empty}",
+        f" 5 {2**32 + 1} 7 {empty}", f" 5 {2**64 + 1} 7 {empty}", f" 5 {TOO_LARGE} 7 {empty}",
+        f" 5 {2**64 - 1} {empty}", f" 5 1 7 {empty.upper()}", f" 5 1 7 0x{empty}",
+        f" 5 1 7 {empty[:-1]}", f" 5 1 7 {empty}0", " 5 0 0", " 5 0 000", " 0 0 x", " 0 0 0g",
+        " 5 1 7 53 42 4b 31 00 00", f" 5 1 7 {empty[:8]} 0000", f" 5 1 7 {empty[:-2]}\xd9\xa5",
+        f" 5 40{level[2:]} {ONE_SHADE}", f" 5 42{level[2:]} {ONE_SHADE}",
+        f" 5 {level[3:]} {ONE_SHADE}", f" {level} {ONE_SHADE}", f" 5 {level} {ONE_SHADE[:-1]}",
+        f" 5 {level} {ONE_SHADE}0",
+        f" 5 {level} {ONE_SHADE} ", f" 5 {level} {ONE_SHADE.upper()}", f" 5 {level}{ONE_SHADE}",
+        f" 5 {level} 5 {ONE_SHADE}", f" 5 10 {level} {ONE_SHADE}", f" 10 5 {level} {ONE_SHADE}",
+        *(f" 5 1 7 {empty[:at]}{other}{empty[at + 1:]}"
+          for other in NO_DIGITS for at in (0, 7, 11)),
+    )] + [f"{line} {empty}".encode() for line in (
+        "Nearest 5 0", "neares 5 0", " nearest 5 0", "5 nearest 0", "near 5 0", "nearest\r 5 0",
+    )]
+
+
+def odd_searches():
+    """Odd lines that are a search: refused, but for the last four at the spacing in force."""
+    said = [" 0 0 00", " 00 000 0000", " 5 0 00", " 5 1 7 10", " 5 1 7 1234", f" {TOO_LARGE} 0 00",
+            f" 5 1 {TOO_LARGE} 00", f" 5 0 {ONE_SHADE}"]
+    for spacing in (5, 10):
+        level, data = counted(flat(1_250, spacing)), book_bytes([(7, flat(1_251, spacing))]).hex()
+        said += [f" 0 {level} {data}", f" 5 {level} {EMPTY_BOOK}", f" 5 {level} {data}00",
+                 f" 5 {level} 00{data}", f" 5 {level} {data[:-2]}", f" 5 {level} {level[:2]}",
+                 f" {2**32} {level} {data}", f" {TOO_LARGE} {level} {data}", f" 5 {level} {data}",
+                 f" {'0' * 40}5 {'0' * 40}{level} {data}"]
+    return [f"nearest{rest}".encode() for rest in said]
 
 
 def unreadable():
@@ -123,7 +172,7 @@ def unreadable():
         f"standard {ZEROS[:-1]}x".encode(), f"standard {ZEROS[:-2]}  0".encode(),
         *no_trials("trial"), *no_trials("preview"), b"Trial 8 0", b"tria 8 0", b" trial 8 0",
         b"Preview 8 0", b"previe 8 0", b" preview 8 0", b"8 trial 0", b"standard 8 0",
-        *no_poolings(), *no_strikes(),
+        *no_poolings(), *no_strikes(), *no_searches(),
         b"open", b"open ", b"open 5", b"open 5 0", b"open 5 0 0 0", b"open 5 0 0 0 ",
         b"open 5 0 0 0 0 0", b"open 5 0 0 0 0 ", b"open  5 0 0 0 0", b"open 5  0 0 0 0",
         b"open five 0 0 0 0", b"open -5 0 0 0 0", b"open 5, 0 0 0 0", b"open 0 0 0 0",
@@ -140,5 +189,5 @@ def unreadable():
         b"standard 0", *odd_trials("trial"), *odd_trials("preview"),
         f"standard 00081 {ZEROS[3:]}".encode(), *odd_trials("trial"),
         b"tolerance lab 000000000000000000000000000007", *odd_trials("preview"),
-        *odd_trials("trial"), *odd_poolings(), *odd_strikes(), REPORT, b"",
+        *odd_trials("trial"), *odd_poolings(), *odd_strikes(), *odd_searches(), REPORT, b"",
     ]

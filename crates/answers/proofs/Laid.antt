@@ -16,14 +16,16 @@ use Rattle.trials.specs.declared.TrialAnswer.{TrialAnswer}
 use Rattle.trials.specs.Tried.{amountOf, trialOutcome}
 use Rattle.looks.specs.declared.Seen.{Seen}
 use Rattle.looks.specs.declared.Seen.the-variants as looks
-use Rattle.looks.specs.declared.Seen.the-variants.{Previewed}
-use Rattle.looks.specs.Look.{previewed}
+use Rattle.looks.specs.declared.Seen.the-variants.{Previewed, Nearest}
+use Rattle.book_search.specs.declared.NearestAnswer.{NearestAnswer}
+use Rattle.book_search.specs.Searching.{nearestOutcome}
+use Rattle.looks.specs.Look.{previewed, found}
 use Rattle.looks.specs.Looked.{seenAnswer}
 use Rattle.session.specs.declared.Answer.{Answer}
 use Rattle.session.specs.declared.Answer.the-variants.{Accepted, Coloured, Tried, Refused}
 use Rattle.session.specs.Outcome.{Outcome, accepted, coloured, tried, counted, seen, refused}
 use Rattle.session.specs.Served.{outcomeOf}
-use Rattle.answers.specs.Answers.{answerWords, chromaticityWords, colourWords, spaceWord, verdictWord, trialWords, padded, refusedRecord, setWords, answerRecord}
+use Rattle.answers.specs.Answers.{answerWords, chromaticityWords, colourWords, spaceWord, verdictWord, trialWords, nearestWords, padded, refusedRecord, setWords, answerRecord}
 
 -- how long an answer is
 length-padded : (words : List ℕ) → length (padded words) ≡ answerWords
@@ -38,6 +40,7 @@ length-answer (coloured colour) = length-padded (1 ∷ colourWords colour)
 length-answer (tried t) = length-padded (2 ∷ trialWords t)
 length-answer (counted r) = length-padded (3 ∷ setWords (r .sets))
 length-answer (seen (causes.accepted (previewed t))) = length-padded (5 ∷ trialWords t)
+length-answer (seen (causes.accepted (found a))) = refl
 length-answer (seen (causes.refused cause)) = refl
 length-answer (refused cause) = refl
 
@@ -98,6 +101,10 @@ module _ {answer : Seen} {r : List ℕ} where
   pub laid-previewed : {t : TrialAnswer} → answer ≡ Previewed t → r ≡ padded (5 ∷ trialWords (trialOutcome t)) → r ≡ answerRecord (seen (seenAnswer answer))
   unfolding answerRecord
   laid-previewed e q = rw e q
+
+  pub laid-nearest : {a : NearestAnswer} → answer ≡ Nearest a → r ≡ padded (6 ∷ nearestWords (nearestOutcome a)) → r ≡ answerRecord (seen (seenAnswer answer))
+  unfolding answerRecord
+  laid-nearest e q = rw e q
 
   pub laid-unseen : {cause : Cause} → answer ≡ looks.Refused cause → r ≡ refusedRecord (causeNumber cause) → r ≡ answerRecord (seen (seenAnswer answer))
   unfolding answerRecord

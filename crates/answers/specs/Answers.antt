@@ -7,6 +7,7 @@
 --   3  tallies: pass, fail, on the line, of inspection table 1 (1 to 3), of 2 (4 to 6), and so on to 8 (22 to 24)
 --   4  refused: the cause (1)
 --   5  a preview: what a trial would answer, laid out as that is (1 to 16)
+--   6  the nearest shade: full comparisons made (1), the best shade's number (2), the gap (3), E (4), both in CIELAB
 -- A colour is X, Y, Z, whether it has a chromaticity (1 or 0), x, y (0 where it has none), L, a, b, u, v, CIELAB chroma, CIELUV chroma; a, b, u
 -- and v are signed, in two's complement. Words that an answer does not name are 0.
 use mathlib.Core.List.{List, [], _∷_, _++_}
@@ -22,7 +23,8 @@ use Rattle.cie.specs.declared.Space.the-variants.{Cielab, Cieluv}
 use Rattle.cie.specs.declared.Verdict.{Verdict}
 use Rattle.cie.specs.declared.Verdict.the-variants.{Pass, Fail, OnTheLine}
 use Rattle.trials.specs.Outcome.{TrialOutcome}
-use Rattle.looks.specs.Look.{previewed}
+use Rattle.nearest.specs.Rule.{NearestOutcome}
+use Rattle.looks.specs.Look.{previewed, found}
 use Rattle.session.specs.Outcome.{VerdictCounts, Outcome, accepted, coloured, tried, counted, seen, refused}
 
 abbrev pub answerWords : ℕ
@@ -54,6 +56,9 @@ padded words = take answerWords (words ++ replicate answerWords 0)
 abbrev pub trialWords : TrialOutcome → List ℕ
 trialWords t = colourWords (t .colour) ++ (spaceWord (t .e .space) ∷ t .e .units ∷ verdictWord (t .verdict) ∷ [])
 
+abbrev pub nearestWords : NearestOutcome → List ℕ
+nearestWords a = a .count ∷ a .shade ∷ a .gap ∷ a .e ∷ []
+
 abbrev pub refusedRecord : ℕ → List ℕ
 refusedRecord cause = padded (4 ∷ cause ∷ [])
 
@@ -68,6 +73,7 @@ answerRecord (coloured colour) = padded (1 ∷ colourWords colour)
 answerRecord (tried t) = padded (2 ∷ trialWords t)
 answerRecord (counted r) = padded (3 ∷ setWords (r .sets))
 answerRecord (seen (causes.accepted (previewed t))) = padded (5 ∷ trialWords t)
+answerRecord (seen (causes.accepted (found a))) = padded (6 ∷ nearestWords a)
 answerRecord (seen (causes.refused cause)) = refusedRecord cause
 answerRecord (refused cause) = refusedRecord cause
 

@@ -6,11 +6,13 @@ ghost use lib.ListN.{length};
 ghost use lib.Seq.{sets};
 ghost use Rattle.causes.specs.Causes.{causeNumber};
 ghost use Rattle.trials.specs.Tried.{amountOf, trialOutcome};
+ghost use Rattle.book_search.specs.Searching.{nearestOutcome};
 ghost use Rattle.looks.specs.Looked.{seenAnswer};
 ghost use Rattle.session.specs.declared.Answer.the-variants.{Counted};
 ghost use Rattle.session.specs.Outcome.{seen};
 ghost use Rattle.session.specs.Served.{outcomeOf};
-ghost use Rattle.answers.specs.Answers.{answerWords, chromaticityWords, spaceWord, verdictWord, colourWords, trialWords, padded, refusedRecord, answerRecord};
+ghost use Rattle.answers.specs.Answers.{answerWords, chromaticityWords, spaceWord, verdictWord, colourWords, trialWords, nearestWords, padded, refusedRecord, answerRecord};
+use book_search::NearestAnswer;
 use causes::Cause;
 use cie::Chromaticity;
 use cie::Colour;
@@ -151,11 +153,25 @@ fn refused_words(cause: Cause) -> [u32; 32]
     short_words(4, causes::number(cause))
 }
 
+// The words of a search's answer.
+fn nearest_words(a: NearestAnswer) -> [u32; 32]
+    ensures { λ r. ⌜ r ≡ padded (6 ∷ nearestWords (nearestOutcome a)) ⌝ }
+{
+    let mut words = [0u32; 32];
+    words[0] = 6;
+    words[1] = a.count;
+    words[2] = a.shade as u32;
+    words[3] = a.gap.0;
+    words[4] = a.e.0;
+    words
+}
+
 fn seen_words(answer: Seen) -> [u32; 32]
     ensures { λ r. ⌜ r ≡ answerRecord (seen (seenAnswer answer)) ⌝ }
 {
     match answer {
         Seen::Previewed(t) => trial_words(5, t),
+        Seen::Nearest(a) => nearest_words(a),
         Seen::Refused(cause) => refused_words(cause),
     }
 }

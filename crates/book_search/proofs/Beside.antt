@@ -19,7 +19,6 @@ use Rattle.conditions.specs.declared.Conditions.{Conditions}
 use Rattle.conditions.specs.Measure.{colourUnder}
 use Rattle.book.specs.Book.{rising, numbersOf, readingsOf, spectrumOf}
 use Rattle.book.proofs.Rules.{and-left, and-right}
-use Rattle.nearest.specs.Rule.{Shade}
 use Rattle.nearest.specs.Order.{keyOf, keysOf}
 use Rattle.nearest.proofs.Remaining.{shadeAt, Rising, none, more}
 use Rattle.book_search.specs.Shades.{beside, allBeside, bookBeside, lightnessBy, keysBy}

@@ -1,16 +1,14 @@
 -- What a search finds, by what measuring answers and by the two checks behind it. Assumes nothing.
 use mathlib.Core.Path.{_≡_, refl, sym, ap, _∙_}
-use mathlib.Core.Bool.{Bool, true, false, not, _||_}
+use mathlib.Core.Bool.{Bool, true, false, not}
 use mathlib.Core.List.{List, [], _∷_, _++_}
 use Prim.Native.Nat.{ℕ}
 use lib.Dec.{eqb}
 use borrow.Author.Tests.{eq-eqb, ne-eqb}
 use Rattle.causes.specs.declared.Cause.{Cause}
 use Rattle.causes.specs.declared.Cause.the-variants.{NoConditions, NotABook, EmptyLook}
-use Rattle.causes.specs.declared.Checked.{Checked}
-use Rattle.causes.specs.declared.Checked.the-variants.{Clear}
 use Rattle.causes.specs.Causes.{accepted, refused, refusal}
-use Rattle.causes.specs.Checks.{Check, check, firstOf, numbered}
+use Rattle.causes.specs.Checks.{Check, check, firstOf}
 use Rattle.causes.proofs.Checks.{first-fires, first-passes, first-ends, first-because, first-clear, refuses, accepts}
 use Rattle.cie.specs.declared.Colour.{Colour}
 use Rattle.cie.specs.declared.Sums.{Sums}

@@ -15,7 +15,7 @@ use Rattle.book.specs.Book.{countOf, numbersOf, readingsOf, isBook, isIn, index
 use Rattle.book.proofs.Rules.{length-numbersOf}
 use Rattle.book.proofs.Tests.{in-list, in-place, at-place}
 use Rattle.book.proofs.Rising.{numbers-rise, own-place}
-use Rattle.nearest.specs.Rule.{Shade, Searched, nearest}
+use Rattle.nearest.specs.Rule.{Shade, nearest}
 use Rattle.nearest.specs.Claims.{In, Promised}
 use Rattle.nearest.proofs.Remaining.{shadeAt, Placed, placed, shade-in}
 use Rattle.nearest.proofs.Theorems.{nearest-promised}

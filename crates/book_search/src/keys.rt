@@ -5,7 +5,6 @@ ghost use Prim.Native.Nat.{_≤_, _<_};
 ghost use lib.ListN.{length, getD};
 ghost use Rattle.signed.specs.Apart.{distance};
 ghost use Rattle.cie.specs.Spacing.{mostRows};
-ghost use Rattle.cie.specs.Colour.{lightnessAt};
 ghost use Rattle.conditions.specs.Weights.{dot, whiteReadings, Weights};
 ghost use Rattle.book.specs.Book.{countOf, numbersOf, readingsOf, isBook, spectrumOf};
 ghost use Rattle.nearest.specs.Order.{keyRange, keyOf};

@@ -5,12 +5,12 @@ use Prim.Native.Nat.{ℕ}
 use borrow.Author.Tests.{ne-eqb}
 use Rattle.cie.specs.declared.Space.the-variants.{Cielab, Cieluv}
 use Rattle.cie.specs.Sums.{tablesOf}
-use Rattle.looks.specs.Look.{preview}
+use Rattle.looks.specs.Look.{preview, nearest}
 use Rattle.session.specs.declared.Session.{Session}
 use Rattle.session.specs.declared.Served.{Served}
 use Rattle.session.specs.Call.{Call, open-tables, open-light, set-standard, set-tolerance, trial, report, look}
 use Rattle.session.specs.Meets.{Meets}
-use Rattle.calls.specs.Records.{wordAt, partAt, Slices, tablesAt, callOfKind, callOf}
+use Rattle.calls.specs.Records.{wordAt, partAt, Slices, tablesAt, searchAt, callOfKind, callOf}
 
 -- the first word of a record, as it is read
 pub record Kind (words : List ℕ) (slices : Slices) (kind : ℕ) : Type 0 where
@@ -24,6 +24,11 @@ module _ {s : Session} {r : Served} where
       → i ≡ partAt slice words 1 → x ≡ partAt slice words 3 → y ≡ partAt slice words 5 → z ≡ partAt slice words 7
       → Meets s (open-tables (tablesOf spacing i x y z)) r → Meets s (open-tables (tablesAt slice words)) r
   opens-tables slice words e p q u v m = meets-as (λ j. open-tables (tablesOf (e j) (p j) (q j) (u j) (v j))) m
+
+  pub searches : (spectra books words : List ℕ) {budget : ℕ} {swatch book : List ℕ} → budget ≡ wordAt words 5
+      → swatch ≡ partAt spectra words 1 → book ≡ partAt books words 3
+      → Meets s (look (nearest budget swatch book)) r → Meets s (look (searchAt spectra books words)) r
+  searches spectra books words e p q m = meets-as (λ j. look (nearest (e j) (p j) (q j))) m
 
   module _ {words : List ℕ} {slices : Slices} {kind : ℕ} (k : Kind words slices kind) where
     -- the call of the kind n, which the arm makes
@@ -64,10 +69,14 @@ module _ {s : Session} {r : Served} where
     unfolding callOfKind
     by-preview e p q m = of-kind 7 e (λ j. look (preview (p j) (q j))) m
 
-    pub by-report : (kind ≡ 1 → ⊥) → (kind ≡ 2 → ⊥) → (kind ≡ 3 → ⊥) → (kind ≡ 4 → ⊥) → (kind ≡ 5 → ⊥) → (kind ≡ 6 → ⊥) → (kind ≡ 7 → ⊥)
+    pub by-nearest : kind ≡ 8 → Meets s (look (searchAt (slices .spectra) (slices .books) words)) r → Meets s (callOf words slices) r
+    unfolding callOfKind
+    by-nearest e m = of-kind 8 e refl m
+
+    pub by-report : (kind ≡ 1 → ⊥) → (kind ≡ 2 → ⊥) → (kind ≡ 3 → ⊥) → (kind ≡ 4 → ⊥) → (kind ≡ 5 → ⊥) → (kind ≡ 6 → ⊥) → (kind ≡ 7 → ⊥) → (kind ≡ 8 → ⊥)
         → Meets s report r → Meets s (callOf words slices) r
     unfolding callOfKind
-    by-report n₁ n₂ n₃ n₄ n₅ n₆ n₇ m =
+    by-report n₁ n₂ n₃ n₄ n₅ n₆ n₇ n₈ m =
         of-kind kind refl
-        (simp (ne-eqb kind 1 n₁, ne-eqb kind 2 n₂, ne-eqb kind 3 n₃, ne-eqb kind 4 n₄, ne-eqb kind 5 n₅, ne-eqb kind 6 n₆, ne-eqb kind 7 n₇))
+        (simp (ne-eqb kind 1 n₁, ne-eqb kind 2 n₂, ne-eqb kind 3 n₃, ne-eqb kind 4 n₄, ne-eqb kind 5 n₅, ne-eqb kind 6 n₆, ne-eqb kind 7 n₇, ne-eqb kind 8 n₈))
         m

@@ -9,6 +9,8 @@
 --   5  tolerance in CIELUV: the amount (word 1)
 --   6  trial: its readings, as a part of the slice of spectra (words 1 2), and its inspection table (word 3)
 --   7  preview: as a trial
+--   8  nearest: the swatch's readings, as a part of the slice of spectra (words 1 2), the book, as a part of the slice of books (words 3 4), and
+--      the budget (word 5)
 --   any other number: report
 -- Words that a call does not name may hold anything. A part that runs past the end of its slice is a table of length 0. A record that ends early
 -- counts as one that goes on with zeros.
@@ -20,7 +22,7 @@ use lib.Dec.{leb, eqb}
 use lib.ListN.{length, getD, take, drop}
 use Rattle.cie.specs.declared.Space.the-variants.{Cielab, Cieluv}
 use Rattle.cie.specs.Sums.{Tables, tablesOf}
-use Rattle.looks.specs.Look.{preview}
+use Rattle.looks.specs.Look.{Look, preview, nearest}
 use Rattle.session.specs.Call.{Call, open-tables, open-light, set-standard, set-tolerance, trial, report, look}
 
 abbrev pub callWords : ℕ
@@ -57,6 +59,10 @@ slicesOf tables spectra books = record { tables = tables; spectra = spectra; boo
 abbrev pub tablesAt : List ℕ → List ℕ → Tables
 tablesAt slice words = tablesOf (wordAt words 9) (partAt slice words 1) (partAt slice words 3) (partAt slice words 5) (partAt slice words 7)
 
+-- the search that a record names
+abbrev pub searchAt : List ℕ → List ℕ → List ℕ → Look
+searchAt spectra books words = nearest (wordAt words 5) (partAt spectra words 1) (partAt books words 3)
+
 -- the call of a kind, with the other words of its record
 unfoldable pub callOfKind : ℕ → List ℕ → Slices → Call
 callOfKind kind words slices =
@@ -67,7 +73,8 @@ callOfKind kind words slices =
     (cond (eqb kind 5) (set-tolerance Cieluv (wordAt words 1))
     (cond (eqb kind 6) (trial (wordAt words 3) (partAt (slices .spectra) words 1))
     (cond (eqb kind 7) (look (preview (wordAt words 3) (partAt (slices .spectra) words 1)))
-    report))))))
+    (cond (eqb kind 8) (look (searchAt (slices .spectra) (slices .books) words))
+    report)))))))
 
 -- the call of a record
 abbrev pub callOf : List ℕ → Slices → Call

@@ -3,10 +3,10 @@
 ghost use mathlib.Core.Path.{_≡_};
 ghost use Prim.Native.Nat.{_+_, _<_};
 ghost use lib.ListN.{length};
-ghost use Rattle.session.specs.Call.{open-tables};
+ghost use Rattle.session.specs.Call.{open-tables, look};
 ghost use Rattle.session.specs.Served.{Valid};
 ghost use Rattle.session.specs.Meets.{Meets};
-ghost use Rattle.calls.specs.Records.{callWords, Lies, wordAt, partAt, slicesOf, tablesAt, callOf};
+ghost use Rattle.calls.specs.Records.{callWords, Lies, wordAt, partAt, slicesOf, tablesAt, searchAt, callOf};
 ghost use Rattle.calls.specs.Run.{runAnswer, ran, answersAfter};
 use causes::Cause;
 use cie::Space;
@@ -37,6 +37,8 @@ pub const TOLERANCE_LUV: u32 = 5;
 pub const TRIAL: u32 = 6;
 
 pub const PREVIEW: u32 = 7;
+
+pub const NEAREST: u32 = 8;
 
 // A word of a record, or 0 where the record ends before it.
 fn word(words: &[u32], i: usize) -> u32
@@ -91,6 +93,26 @@ fn spectrum<'a>(spectra: &'a [u16], words: &[u32]) -> &'a [u16]
     &spectra[from..to]
 }
 
+// The bytes of the book that a record names.
+fn book<'a>(books: &'a [u8], words: &[u32]) -> &'a [u8]
+    ensures { λ r. ⌜ now r ≡ partAt (now (books .entry)) (now (words .entry)) 3 ⌝ }
+{
+    let part = part_at(words, 3, books.len());
+    let from = part.from;
+    let to = part.to;
+    &books[from..to]
+}
+
+// Searches the book that a record names.
+fn search(s: Session, words: &[u32], spectra: &[u16], books: &[u8]) -> Served
+    requires { ⌜ Valid s ⌝ }
+    ensures { λ r. ⌜ Meets s (look (searchAt (now (spectra .entry)) (now (books .entry)) (now (words .entry)))) r ⌝ }
+{
+    let swatch = spectrum(spectra, words);
+    let book = book(books, words);
+    s.nearest(word(words, 5), swatch, book)
+}
+
 // Opens the tables that a record names.
 fn open_tables(s: Session, words: &[u32], tables: &[u32]) -> Served
     requires { ⌜ Valid s ⌝ }
@@ -116,6 +138,7 @@ pub fn call(s: Session, words: &[u32], tables: &[u32], spectra: &[u16], books: &
         TOLERANCE_LUV => s.set_tolerance(Space::Cieluv, word(words, 1)),
         TRIAL => s.trial(word(words, 3), spectrum(spectra, words)),
         PREVIEW => s.preview(word(words, 3), spectrum(spectra, words)),
+        NEAREST => search(s, words, spectra, books),
         _ => s.report(),
     }
 }

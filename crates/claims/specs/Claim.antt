@@ -8,12 +8,16 @@ use lib.Dec.{eqb}
 use Rattle.causes.specs.Causes as causes
 use Rattle.cie.specs.declared.Verdict.{Verdict}
 use Rattle.cie.specs.declared.Verdict.the-variants.{Pass, Fail, OnTheLine}
+use Rattle.cie.specs.Spacing.{rowsAt}
 use Rattle.cie.specs.Sums.{Tables, sumsOf, whiteOf}
+use Rattle.cie.specs.Colour.{colourAt}
 use Rattle.cie.specs.Exact.{squaresAt}
 use Rattle.cie.specs.Verdict.{Told}
 use Rattle.tallies.specs.ByTable.{tableNumbers}
 use Rattle.trials.specs.Outcome.{Amount}
-use Rattle.looks.specs.Look.{Look, preview, Sight, previewed}
+use Rattle.nearest.specs.Rule.{NearestOutcome}
+use Rattle.book_search.specs.Claims.{NearestTold}
+use Rattle.looks.specs.Look.{Look, preview, nearest, Sight, previewed, found}
 use Rattle.session.specs.declared.Session.{Session}
 use Rattle.session.specs.Call.{Call, open-tables, open-light, set-standard, set-tolerance, trial, report, look}
 use Rattle.session.specs.Outcome.{VerdictCounts, Outcome, accepted, coloured, tried, counted, seen, refused}
@@ -65,9 +69,18 @@ TrialTold l readings (counted r) = ⊥
 TrialTold l readings (seen answer) = ⊥
 TrialTold l readings (refused cause) = Unit
 
--- Document 02: "the mission's promise about verdicts covers what they show"
+-- Document 02: "No shade in the book has an E below the best by more than the gap.", by the colours that readings have under the ledger's tables.
+-- There is no nearest shade without them.
+abbrev pub NearestAt : Held Tables → ℕ → List ℕ → List ℕ → NearestOutcome → Type 0
+NearestAt none budget swatch book a = ⊥
+NearestAt (held t) budget swatch book a = NearestTold (colourAt t) (rowsAt (t .spacing)) budget swatch book a
+
+-- Document 02: "the mission's promise about verdicts covers what they show": a preview; a search shows no verdict
 abbrev pub SightTold : Ledger → Look → Sight → Type 0
 SightTold l (preview table readings) (previewed t) = VerdictAt l readings (t .verdict)
+SightTold l (preview table readings) (found a) = ⊥
+SightTold l (nearest budget swatch book) (previewed t) = ⊥
+SightTold l (nearest budget swatch book) (found a) = NearestAt (l .conditions) budget swatch book a
 
 abbrev pub LookTold : Ledger → Look → Outcome → Type 0
 LookTold l k accepted = ⊥

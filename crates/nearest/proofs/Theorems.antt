@@ -1,14 +1,14 @@
 -- The claim of specs/Claims.antt: at every stage of the search, what is tried from there on keeps the promise over the best so far and the rest.
 -- Assumes nothing.
 use Prim.Native.Nat.{ℕ, zero, suc, _+_, _-_, _≤_, _<_}
-use mathlib.Core.Path.{_≡_, refl, sym, ap, _∙_}
+use mathlib.Core.Path.{_≡_, refl, sym, ap, subst, _∙_}
 use mathlib.Core.Bool.{Bool, true, false, _&&_, _||_, cond}
 use mathlib.Core.Logic.{_⊎_, inl, inr, ⊎-elim}
-use mathlib.Core.List.{List, [], _∷_, List·Memᴰ, List·Memᴰ·head, List·Memᴰ·tail, List·Memᴰ·cases-cons, List·Memᴰ·not-nil, List·Memᴰ·eq-of-singleton}
+use mathlib.Core.List.{List, [], _∷_, List·Memᴰ·head, List·Memᴰ·tail, List·Memᴰ·cases-cons, List·Memᴰ·not-nil, List·Memᴰ·eq-of-singleton}
 use native.Mathlib.Omega.{arith}
 use lib.ListN.{length, take}
 use lib.Dec.{leb, ltb, eqb}
-use borrow.Author.Tests.{ltb-true, ltb-false, eqb-true, eqb-false, leb-true, leb-false}
+use borrow.Author.Tests.{ltb-true, ltb-false, eqb-true, eqb-false, leb-false}
 use Rattle.nearest.specs.Rule.{Shade, Searched, searched, closer, better, inOrder, tries, triesAll, nearest}
 use Rattle.nearest.specs.Claims.{In, AtLeastAsGood, Promised, NearestPromised}
 use Rattle.nearest.proofs.Sorted.{in-order, order-in, Rises, none, more, rises-order}
@@ -78,26 +78,35 @@ stops budget count best rest gap k h =
       lowest = λ s m. rw (List·Memᴰ·eq-of-singleton (rw take-none at m)) (itself best);
     }
 
+-- what holds of two shades and of those behind them holds of all
+of-all : (Q : Shade → Type 0) (x y : Shade) (xs : List Shade) → Q x → Q y → ((s : Shade) → In s xs → Q s) → (s : Shade) → In s (x ∷ (y ∷ xs)) → Q s
+of-all Q x y xs p q r s m =
+    ⊎-elim (λ e. subst Q (sym e) p) (λ n. ⊎-elim (λ e. subst Q (sym e) q) (r s) (List·Memᴰ·cases-cons n)) (List·Memᴰ·cases-cons m)
+
 -- one more is tried
 goes : (budget count : ℕ) (best next : Shade) (rest : List Shade) (a : Searched) → count < budget
     → Stage budget (count + 1) (better best next) rest a → Stage budget count best (next ∷ rest) a
 goes budget count best next rest a k h =
     let b = better-is best next in
     let l : AtLeastAsGood (a .best) (better best next) = h .lowest (better best next) (List·Memᴰ·head refl) in
+    let old : AtLeastAsGood (a .best) best = as-good (a .best) (better best next) best l (b .old) in
+    let new : AtLeastAsGood (a .best) next = as-good (a .best) (better best next) next l (b .new) in
     let on₀ = h .on in
-    let m₀ : a .count - count ≡ suc (a .count - (count + 1)) = omega arith in
-    let back : (s : Shade) → In s (best ∷ (next ∷ take (a .count - (count + 1)) rest)) → AtLeastAsGood (a .best) s = λ s m.
-    ⊎-elim (λ p. rw p (as-good (a .best) (better best next) best l (b .old)))
-    (λ q. ⊎-elim (λ p. rw p (as-good (a .best) (better best next) next l (b .new))) (λ r. h .lowest s (List·Memᴰ·tail r)) (List·Memᴰ·cases-cons q)) (List·Memᴰ·cases-cons m) in
-    let among : In (a .best) (best ∷ (next ∷ take (a .count - (count + 1)) rest)) =
-    ⊎-elim (λ p. ⊎-elim (λ x. List·Memᴰ·head (p ∙ x)) (λ x. List·Memᴰ·tail (List·Memᴰ·head (p ∙ x))) (b .one)) (λ q. List·Memᴰ·tail (List·Memᴰ·tail q)) (List·Memᴰ·cases-cons (h .own)) in
+    let more-tried : a .count - count ≡ suc (a .count - (count + 1)) = omega arith in
+    let left : List Shade = take (a .count - (count + 1)) rest in
+    let own : In (a .best) (best ∷ (next ∷ left)) =
+    ⊎-elim
+    (λ p. ⊎-elim (λ x. List·Memᴰ·head (p ∙ x)) (λ x. List·Memᴰ·tail (List·Memᴰ·head (p ∙ x))) (b .one))
+    (λ q. List·Memᴰ·tail (List·Memᴰ·tail q))
+    (List·Memᴰ·cases-cons (h .own)) in
     record {
       on = omega arith;
       within = h .within;
-      near = λ s m. ⊎-elim (λ p. rw p (omega (arith, (as-good (a .best) (better best next) best l (b .old)) .close)))
-          (λ q. ⊎-elim (λ p. rw p (omega (arith, (as-good (a .best) (better best next) next l (b .new)) .close))) (λ r. h .near s (List·Memᴰ·tail r)) (List·Memᴰ·cases-cons q)) (List·Memᴰ·cases-cons m);
-      own = rw m₀ among;
-      lowest = rw m₀ back;
+      near =
+          of-all (λ (s : Shade). a .best .e ≤ s .e + a .gap) best next rest (omega (arith, old .close)) (omega (arith, new .close))
+          (λ s r. h .near s (List·Memᴰ·tail r));
+      own = rw more-tried own;
+      lowest = rw more-tried (of-all (AtLeastAsGood (a .best)) best next left old new (λ s r. h .lowest s (List·Memᴰ·tail r)));
     }
 
 stage : (budget count : ℕ) (best : Shade) (rest : List Shade) → count ≤ budget → Rises rest → ((s : Shade) → In s rest → s .difference ≤ s .e)
@@ -132,7 +141,8 @@ whole budget (s₀ ∷ ss) (first ∷ rest) k e l (more r rs) h =
     let st : Stage budget 1 first rest a = stage budget 1 first rest k rs (λ s m. h s (back s (List·Memᴰ·tail m))) in
     let one = st .on in
     let n : a .count ≡ suc (a .count - 1) = omega arith in
-    let tried-is : take (a .count) (inOrder (s₀ ∷ ss)) ≡ first ∷ take (a .count - 1) rest = ap (λ (l : List Shade). take (a .count) l) e ∙ ap (λ (j : ℕ). take j (first ∷ rest)) n in
+    let tried-is : take (a .count) (inOrder (s₀ ∷ ss)) ≡ first ∷ take (a .count - 1) rest =
+    ap (λ (l : List Shade). take (a .count) l) e ∙ ap (λ (j : ℕ). take j (first ∷ rest)) n in
     record {
       near = λ s m. st .near s (there s m);
       nearest-of-all = λ g s m. omega (arith, st .near s (there s m));
@@ -140,7 +150,9 @@ whole budget (s₀ ∷ ss) (first ∷ rest) k e l (more r rs) h =
       some = one;
       among = rw tried-is (st .own);
       lowest = λ s m. st .lowest s (rw tried-is at m);
-      own = back (a .best) (⊎-elim (λ p. List·Memᴰ·head p) (λ q. List·Memᴰ·tail (in-take (a .best) (a .count - 1) rest q)) (List·Memᴰ·cases-cons (st .own)));
+      own =
+          back (a .best)
+          (⊎-elim (λ p. List·Memᴰ·head p) (λ q. List·Memᴰ·tail (in-take (a .best) (a .count - 1) rest q)) (List·Memᴰ·cases-cons (st .own)));
     }
 
 pub nearest-promised : NearestPromised

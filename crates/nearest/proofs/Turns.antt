@@ -6,11 +6,11 @@ use Prim.Native.Nat.{ℕ, _+_, _-_, _≤_, _<_}
 use native.Mathlib.Omega.{arith}
 use lib.Dec.{leb, ltb, eqb}
 use lib.ListN.{length, getD}
-use borrow.Author.Tests.{ltb-true, ltb-false, lt-ltb, le-ltb, le-leb, lt-leb}
+use borrow.Author.Tests.{ltb-true, ltb-false, le-leb, lt-leb}
 use Rattle.nearest.specs.declared.Search.{Search}
-use Rattle.nearest.specs.Rule.{Shade, Searched, searched, closer, better, inOrder, tries, triesAll, nearest, NearestOutcome, answered}
+use Rattle.nearest.specs.Rule.{Shade, searched, closer, better, inOrder, tries, triesAll, nearest, answered}
 use Rattle.nearest.specs.Order.{numberRange, differenceIn, numberIn, shadeKey, keysOf, NextIs, begun, goesOn, isCloser, compared, gapOf}
-use Rattle.nearest.proofs.Remaining.{noShade, shadeAt, key-at, keys-length, Rising, small-number, shade-in, remaining, remaining-all, left-none, left-first}
+use Rattle.nearest.proofs.Remaining.{shadeAt, key-at, keys-length, Rising, small-number, shade-in, remaining, remaining-all, left-none, left-first}
 
 -- what a key holds
 difference-in : (s : Shade) → s .number < numberRange → differenceIn (shadeKey s) ≡ s .difference

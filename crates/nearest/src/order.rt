@@ -1,9 +1,8 @@
 // Keys, and the next of them: the order in which shades are tried.
 ghost use mathlib.Core.Path.{_≡_};
 ghost use mathlib.Core.Bool.{_&&_};
-ghost use Prim.Native.Nat.{_+_, _-_, _≤_, _<_};
+ghost use Prim.Native.Nat.{_+_, _-_, _<_};
 ghost use lib.Dec.{leb, ltb};
-ghost use lib.ListN.{length, getD};
 ghost use Rattle.nearest.specs.Order.{keyRange, differenceIn, numberIn, NextIs, SmallKeys};
 
 // Numbers have 16 bits.

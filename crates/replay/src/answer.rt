@@ -5,7 +5,8 @@ ghost use Rattle.cie.specs.Spacing.{mostRows};
 ghost use Rattle.session.specs.Served.{Valid};
 use crate::beside;
 use crate::form::Asked;
-use crate::form::ENTRIES;
+use crate::form::BOOK_LENGTH;
+use crate::form::BYTES;
 use crate::form::LENGTH;
 use crate::form::NUMBER;
 use crate::form::SPACING;
@@ -13,6 +14,7 @@ use crate::form::SPOTS;
 use crate::form::STRETCH;
 use crate::form::Stage;
 use crate::line;
+use crate::line::Line;
 use crate::print;
 use crate::reader::Reader;
 use cie::spacing::MOST_ROWS;
@@ -40,14 +42,14 @@ fn put_readings(entries: &[u32], readings: &mut [u16])
     }
 }
 
-// Makes the call of a line, and prints its answer.
-fn called(session: Session, record: &[u32], entries: &[u32; 34007]) -> Session
+// Makes the call of a line, with the book that it has, and prints its answer.
+fn called(session: Session, record: &[u32], entries: &[u32; 34089], book: &[u8]) -> Session
     requires { ⌜ Valid session ⌝ }
     ensures { λ r. ⌜ Valid r ⌝ }
 {
     let mut readings = [0u16; STRETCH];
     put_readings(entries, &mut readings);
-    let served = calls::call(session, record, entries, &readings, b"");
+    let served = calls::call(session, record, entries, &readings, book);
     let answer = served.answer;
     print::print(answer);
     served.session
@@ -102,32 +104,50 @@ fn put_bytes(entries: &[u32], bytes: &mut [u8])
     }
 }
 
-// Strikes a shade of the book that the first entries are, and prints what is left.
-fn struck(spacing: u32, number: u16, entries: &[u32], buffer: &mut [u8])
-    requires { ⌜ (length (now buffer) ≤ length (now entries)) × (length (now buffer) ≤ 34007) ⌝ }
+// The bytes of a line with so many digits, in room that is lent: how many they are.
+fn buffer_of(digits: u32, entries: &[u32], room: &mut [u8]) -> usize
+    requires { ⌜ (34089 ≤ length (now entries)) × (34007 ≤ length (now room)) ⌝ }
+    ensures { λ r. ⌜ r ≤ 34007 ⌝ }
 {
-    put_bytes(entries, buffer);
+    let n = counted(digits / 2, BYTES);
+    put_bytes(&entries[STRETCH..], &mut room[..n]);
+    n
+}
+
+// Strikes a shade of the book that fills a buffer, and prints what is left.
+fn struck(spacing: u32, number: u16, buffer: &mut [u8])
+    requires { ⌜ length (now buffer) ≤ 34007 ⌝ }
+{
     match strike::strike(spacing, number, buffer) {
         Struck::Left(left) => beside::print_struck(line::capped(left as u64), buffer),
         Struck::Refused(cause) => print::print(Answer::Refused(cause)),
     }
 }
 
-// Answers the line of a strike, in room that is lent for its buffer.
-fn struck_line(record: [u32; 10], entries: &[u32], buffer: &mut [u8])
-    requires { ⌜ (34007 ≤ length (now entries)) × (34007 ≤ length (now buffer)) ⌝ }
+// Answers the line of a strike.
+fn struck_line(line: Line, entries: &[u32])
+    requires { ⌜ 34089 ≤ length (now entries) ⌝ }
 {
-    let n = counted(record[LENGTH] / 2, ENTRIES);
-    struck(
-        record[SPACING],
-        short(record[NUMBER]),
-        entries,
-        &mut buffer[..n],
-    );
+    let record = line.record;
+    let mut buffer = [0u8; BYTES];
+    let n = buffer_of(line.digits, entries, &mut buffer);
+    struck(record[SPACING], short(record[NUMBER]), &mut buffer[..n]);
+}
+
+// Answers the line of a search.
+fn searched_line(session: Session, line: Line, entries: &[u32; 34089]) -> Session
+    requires { ⌜ Valid session ⌝ }
+    ensures { λ r. ⌜ Valid r ⌝ }
+{
+    let mut record = line.record;
+    let mut buffer = [0u8; BYTES];
+    let n = buffer_of(line.digits, entries, &mut buffer);
+    record[BOOK_LENGTH] = n as u32;
+    called(session, &record, entries, &buffer[..n])
 }
 
 // Answers the line that ends here, and returns the session that it leaves. An empty line is passed over.
-pub fn answered(session: Session, reader: Reader, entries: &mut [u32; 34007]) -> Session
+pub fn answered(session: Session, reader: Reader, entries: &mut [u32; 34089]) -> Session
     requires { ⌜ Valid session ⌝ }
     ensures { λ r. ⌜ Valid r ⌝ }
 {
@@ -139,7 +159,8 @@ pub fn answered(session: Session, reader: Reader, entries: &mut [u32; 34007]) ->
         Stage::End => {
             let record = line.record;
             match asked {
-                Asked::Call => called(session, &record, entries),
+                Asked::Call => called(session, &record, entries, b""),
+                Asked::Search => searched_line(session, line, entries),
                 Asked::Pool => {
                     let mut spots = [0u16; SPOTS];
                     let mut places = [0u16; MOST_ROWS];
@@ -147,8 +168,7 @@ pub fn answered(session: Session, reader: Reader, entries: &mut [u32; 34007]) ->
                     session
                 }
                 Asked::Strike => {
-                    let mut buffer = [0u8; ENTRIES];
-                    struck_line(record, entries, &mut buffer);
+                    struck_line(line, entries);
                     session
                 }
             }

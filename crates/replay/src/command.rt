@@ -25,6 +25,9 @@ pub fn of_command(token: Token) -> Line {
     if token.is(b"light") {
         return Line::started(calls::OPEN_LIGHT, Stage::Number, 0).with_words(1, 3);
     }
+    if token.is(b"nearest") {
+        return Line::search();
+    }
     if token.is(b"pool") {
         return Line::beside(Asked::Pool, 1);
     }

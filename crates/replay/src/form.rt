@@ -15,12 +15,15 @@ pub const TABLES: usize = 4;
 // The spots of a pooling stand in the first entries: one more than 16 spots of 81 rows have.
 pub const SPOTS: usize = MOST_ROWS * MOST_SPOTS as usize + 1;
 
-// The bytes of a buffer may take all of the entries: one more than the longest book has.
-pub const ENTRIES: usize = HEAD + (ENTRY + READING_BYTES * MOST_ROWS) * MOST_SHADES + 1;
+// The bytes of a buffer stand behind the first stretch: one more than the longest book has.
+pub const BYTES: usize = HEAD + (ENTRY + READING_BYTES * MOST_ROWS) * MOST_SHADES + 1;
 
-// What a line asks for: a call of the session, spots pooled, or a shade struck.
+pub const ENTRIES: usize = STRETCH + BYTES;
+
+// What a line asks for: a call of the session, one with a book, spots pooled, or a shade struck.
 pub enum Asked {
     Call,
+    Search,
     Pool,
     Strike,
 }
@@ -37,8 +40,12 @@ pub enum Stage {
     Unreadable,
 }
 
-// The words of a record that is no call's: how many entries a pooling has, or how many digits a strike; the spacing; the number of spots,
-// or of the shade.
+// The words of a search's record: how many bytes its book has, which is lent alone, and the budget.
+pub const BOOK_LENGTH: usize = 4;
+
+pub const BUDGET: usize = 5;
+
+// The words of a record that is no call's: how many entries a pooling has; the spacing; the number of spots, or of the shade.
 pub const LENGTH: usize = 2;
 
 pub const SPACING: usize = 3;

@@ -1,13 +1,14 @@
 // Bytes in lower-case hexadecimal, two digits a byte.
 ghost use Prim.Native.Nat.{_+_, _*_, _≤_, _<_};
 ghost use lib.ListN.{length};
-use crate::form::ENTRIES;
+use crate::form::BYTES;
+use crate::form::STRETCH;
 
 // A digit's value is below this.
 pub const BASE: u32 = 16;
 
-// How many digits the entries have room for.
-const DIGITS: u32 = 2 * ENTRIES as u32;
+// How many digits there is room for.
+const DIGITS: u32 = 2 * BYTES as u32;
 
 // The value of a digit, or the base where the byte is none.
 pub fn value_of(digit: u8) -> u32 {
@@ -32,11 +33,11 @@ fn place_after(count: u32) -> u32
 }
 
 // Stores a digit that comes after so many others, and answers how many they are with it.
-pub fn stored(count: u32, value: u32, entries: &mut [u32; 34007]) -> u32
+pub fn stored(count: u32, value: u32, entries: &mut [u32; 34089]) -> u32
     requires { ⌜ value < 16 ⌝ }
 {
     let place = place_after(count);
-    let at = (place / 2) as usize;
+    let at = STRETCH + (place / 2) as usize;
     entries[at] = entries[at] % BASE * BASE + value;
     place + 1
 }

@@ -2,6 +2,7 @@
 ghost use Prim.Native.Nat.{_+_, _≤_, _<_};
 use crate::command;
 use crate::form::Asked;
+use crate::form::BUDGET;
 use crate::form::LENGTH;
 use crate::form::NUMBER;
 use crate::form::SPACING;
@@ -26,6 +27,8 @@ pub struct Line {
     tables: usize,
     // how many entries of the present table are still to come
     left: u64,
+    // how many digits of a buffer have come, counted up to their room
+    pub digits: u32,
 }
 
 // The number, or the largest of 32 bits.
@@ -49,6 +52,7 @@ impl Line {
             whole: 0,
             tables: tables,
             left: 0,
+            digits: 0,
         }
     }
 
@@ -67,7 +71,7 @@ impl Line {
         self
     }
 
-    // The line of a pooling or a strike, that has so many tables.
+    // The line of a pooling, a strike or a search, that has so many tables.
     pub fn beside(asked: Asked, tables: usize) -> Line {
         Line {
             stage: Stage::Number,
@@ -78,7 +82,15 @@ impl Line {
             whole: 0,
             tables: tables,
             left: 0,
+            digits: 0,
         }
+    }
+
+    // The line of a search: a number, a table and a buffer.
+    pub fn search() -> Line {
+        let mut line = Line::beside(Asked::Search, 1).with_words(BUDGET, BUDGET + 1);
+        line.record[0] = calls::NEAREST;
+        line
     }
 
     // The line at another stage.
@@ -94,6 +106,16 @@ impl Line {
             whole: self.whole,
             tables: self.tables,
             left: self.left,
+            digits: self.digits,
+        }
+    }
+
+    // After the last table come the digits of a search.
+    fn past_tables(self) -> Line {
+        let asked = self.asked;
+        match asked {
+            Asked::Search => self.at_stage(Stage::Digits),
+            _ => self.at_stage(Stage::End),
         }
     }
 
@@ -102,7 +124,7 @@ impl Line {
         let tables = self.tables;
         let whole = self.whole;
         if tables <= 1 {
-            return self.at_stage(Stage::End);
+            return self.past_tables();
         }
         if TABLES <= whole {
             return Line::unreadable();
@@ -119,9 +141,9 @@ impl Line {
         start: usize,
         room: usize,
         value: u64,
-        entries: &mut [u32; 34007],
+        entries: &mut [u32; 34089],
     ) -> Line
-        requires { ⌜ (length < 10) × (start + room ≤ 34007) ⌝ }
+        requires { ⌜ (length < 10) × (start + room ≤ 34089) ⌝ }
     {
         let n = self.record[length] as usize;
         if room <= n {
@@ -133,7 +155,7 @@ impl Line {
     }
 
     // One entry more of the present table, or of the spots.
-    fn with_stored(self, value: u64, entries: &mut [u32; 34007]) -> Line {
+    fn with_stored(self, value: u64, entries: &mut [u32; 34089]) -> Line {
         let asked = self.asked;
         let table = self.whole;
         match asked {
@@ -147,7 +169,7 @@ impl Line {
         }
     }
 
-    fn with_entry(self, value: u64, entries: &mut [u32; 34007]) -> Line {
+    fn with_entry(self, value: u64, entries: &mut [u32; 34089]) -> Line {
         let mut next = self.with_stored(value, entries);
         let left = next.left;
         if left <= 1 {
@@ -186,7 +208,7 @@ impl Line {
     }
 
     // The line with one number more, where one may come.
-    fn with_number(mut self, token: Token, entries: &mut [u32; 34007]) -> Line {
+    fn with_number(mut self, token: Token, entries: &mut [u32; 34089]) -> Line {
         let stage = self.stage;
         let value = token.value;
         if !token.is_number() {
@@ -205,7 +227,7 @@ impl Line {
         }
     }
 
-    // Whether the next byte is a digit of a strike.
+    // Whether the next byte is a digit of a buffer.
     pub fn takes_digits(self) -> bool {
         let stage = self.stage;
         match stage {
@@ -214,20 +236,19 @@ impl Line {
         }
     }
 
-    // The line with one digit more of a strike.
-    pub fn with_digit(mut self, digit: u8, entries: &mut [u32; 34007]) -> Line {
+    // The line with one digit more of a buffer.
+    pub fn with_digit(mut self, digit: u8, entries: &mut [u32; 34089]) -> Line {
         let value = hex::value_of(digit);
         if hex::BASE <= value {
             return Line::unreadable();
         }
-        let count = self.record[LENGTH];
-        self.record[LENGTH] = hex::stored(count, value, entries);
+        self.digits = hex::stored(self.digits, value, entries);
         self
     }
 
     // The digits are whole where they are bytes, at least one.
     fn with_digits(self) -> Line {
-        let count = self.record[LENGTH];
+        let count = self.digits;
         if count == 0 || count % 2 != 0 {
             return Line::unreadable();
         }
@@ -235,7 +256,7 @@ impl Line {
     }
 
     // The line with one word more.
-    pub fn with_token(self, token: Token, entries: &mut [u32; 34007]) -> Line {
+    pub fn with_token(self, token: Token, entries: &mut [u32; 34089]) -> Line {
         let stage = self.stage;
         match stage {
             Stage::Start => command::of_command(token),

@@ -23,7 +23,7 @@ pub struct Played {
 }
 
 // Plays a piece of the script: each line that ends in it is answered.
-fn play(played: Played, piece: &[u8], entries: &mut [u32; 34007]) -> Played
+fn play(played: Played, piece: &[u8], entries: &mut [u32; 34089]) -> Played
     requires { ⌜ Valid (played .session) ⌝ }
     ensures { λ r. ⌜ Valid (r .session) ⌝ }
 {
@@ -49,7 +49,7 @@ fn play(played: Played, piece: &[u8], entries: &mut [u32; 34007]) -> Played
 
 // Plays the whole script, a piece at a time. A proved loop has to end, and nothing says that a script does: so the loop counts
 // its turns down, from a number that no run uses up.
-fn play_all(played: Played, entries: &mut [u32; 34007]) -> Played
+fn play_all(played: Played, entries: &mut [u32; 34089]) -> Played
     requires { ⌜ Valid (played .session) ⌝ }
     ensures { λ r. ⌜ Valid (r .session) ⌝ }
 {

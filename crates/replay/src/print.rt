@@ -2,6 +2,7 @@
 ghost use Prim.Native.Nat.{_+_, _≤_};
 ghost use lib.ListN.{length};
 ghost use Rattle.io.specs.Counts.{Counts};
+use book_search::NearestAnswer;
 use causes::Cause;
 use cie::Chromaticity;
 use cie::Colour;
@@ -118,6 +119,16 @@ fn put_refused(out: &mut [u8], cause: Cause) -> usize
     put_field(out, after, causes::number(cause))
 }
 
+// What a search answers: full comparisons made, the best shade, the gap, and E.
+fn put_nearest(out: &mut [u8], a: NearestAnswer) -> usize
+    requires { ⌜ 51 ≤ length (now out) ⌝ }
+    ensures { λ r. ⌜ r ≤ 51 ⌝ }
+{
+    let named = text::put(out, 0, b"nearest");
+    let shade = put_three(out, named, a.count, a.shade as u32, a.gap.0);
+    put_field(out, shade, a.e.0)
+}
+
 // A look's answer without its line end: a preview's is as a trial's.
 fn put_seen(out: &mut [u8], seen: Seen) -> usize
     requires { ⌜ 151 ≤ length (now out) ⌝ }
@@ -125,6 +136,7 @@ fn put_seen(out: &mut [u8], seen: Seen) -> usize
 {
     match seen {
         Seen::Previewed(t) => put_tried(out, t),
+        Seen::Nearest(a) => put_nearest(out, a),
         Seen::Refused(cause) => put_refused(out, cause),
     }
 }

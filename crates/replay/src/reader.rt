@@ -19,7 +19,7 @@ impl Reader {
     }
 
     // One byte more of the line, which is no line feed.
-    pub fn with_byte(self, byte: u8, entries: &mut [u32; 34007]) -> Reader {
+    pub fn with_byte(self, byte: u8, entries: &mut [u32; 34089]) -> Reader {
         let line = self.line;
         let token = self.token;
         if byte == b' ' {
@@ -44,7 +44,7 @@ impl Reader {
     }
 
     // The line at its end; an empty one is as it began.
-    pub fn ended(self, entries: &mut [u32; 34007]) -> Line {
+    pub fn ended(self, entries: &mut [u32; 34089]) -> Line {
         let line = self.line;
         let token = self.token;
         if !self.begun {

@@ -1,5 +1,6 @@
 -- Document 01, "Session": the checks of a standard, in their order. The ledger and the program read the same lists: this one, a trial's
--- (trials/specs/Checks.antt), a tolerance's (rules/specs/Standing.antt) and those of tables and lights (conditions/specs/Checks.antt).
+-- (trials/specs/Checks.antt), a search's (book_search/specs/Searching.antt), a tolerance's (rules/specs/Standing.antt) and those of tables and
+-- lights (conditions/specs/Checks.antt).
 -- Assumes nothing.
 use mathlib.Core.Bool.{Bool, not}
 use mathlib.Core.List.{List, _∷_}

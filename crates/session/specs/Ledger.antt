@@ -1,8 +1,8 @@
 -- Document 01, "Lists of calls": the ledger, "which is fed each call with its arguments other than the session, and nothing that the program
 -- holds or answers". It stands on the paper alone. What it shares with the program are the lists of checks (CallChecks.antt names them), the tables
--- and formulas of `cie`, the inspection tables' numbers and limit and a list with something for each of them (tallies/specs/ByTable.antt), the
--- causes' numbers and the words of an answer: no type and no rule that the program decides by. `sessionOf` in Stands.antt is the one map from the
--- ledger to the program. Assumes nothing.
+-- and formulas of `cie`, the rule of a search (`nearestBy` in book_search/specs/Shades.antt, given the colour that readings have), the inspection
+-- tables' numbers and limit and a list with something for each of them (tallies/specs/ByTable.antt), the causes' numbers and the words of an answer:
+-- no type and no rule that the program decides by. `sessionOf` in Stands.antt is the one map from the ledger to the program. Assumes nothing.
 use mathlib.Core.Bool.{Bool, true, false}
 use mathlib.Core.List.{List, [], _∷_}
 use Prim.Native.Nat.{ℕ, _+_}
@@ -25,7 +25,10 @@ use Rattle.tallies.specs.ByTable.{tableCount, isFull, atTable, changedAt}
 use Rattle.rules.specs.Standing.{toleranceChecks}
 use Rattle.trials.specs.Outcome.{Amount, TrialOutcome}
 use Rattle.trials.specs.Checks.{trialChecks}
-use Rattle.looks.specs.Look.{Look, preview, Sight, previewed}
+use Rattle.nearest.specs.Rule.{NearestOutcome}
+use Rattle.book_search.specs.Shades.{nearestBy}
+use Rattle.book_search.specs.Searching.{searchChecks}
+use Rattle.looks.specs.Look.{Look, preview, nearest, Sight, previewed, found}
 use Rattle.session.specs.Call.{Call, open-tables, open-light, set-standard, set-tolerance, trial, report, look}
 use Rattle.session.specs.Outcome.{VerdictCounts, Outcome, accepted, coloured, tried, counted, seen, refused}
 use Rattle.session.specs.CallChecks.{standardChecks}
@@ -133,11 +136,22 @@ countedAt l table (causes.accepted t) =
     }
 countedAt l table (causes.refused cause) = record { ledger = l; outcome = refused cause }
 
+-- Document 02, "Nearest shade in the time there is": the search under the ledger's conditions, by the colour that readings have under its tables
+abbrev pub nearestAt : Held Tables → ℕ → List ℕ → List ℕ → Numbered NearestOutcome
+nearestAt none budget swatch book = refusal NoConditions
+nearestAt (held t) budget swatch book = causes.accepted (nearestBy (colourAt t) (rowsAt (t .spacing)) budget swatch book)
+
+abbrev pub searchedAt : Ledger → ℕ → List ℕ → List ℕ → Numbered NearestOutcome
+searchedAt l budget swatch book =
+    unless (firstOf (searchChecks (isHeld (l .conditions)) (rowsInForce (l .conditions)) budget swatch book)) refusal
+    (nearestAt (l .conditions) budget swatch book)
+
 -- Document 02, "Add a preview of a trial": "document 01's ledger works one out like a trial"
 abbrev pub lookedAt : Ledger → Look → Numbered Sight
 lookedAt l (preview table readings) = mapped previewed (triedAt l table readings)
+lookedAt l (nearest budget swatch book) = mapped found (searchedAt l budget swatch book)
 
--- "and adds nothing": whatever a look answers, the ledger stays as it is
+-- "and adds nothing", "The session doesn't move": whatever a look answers, the ledger stays as it is
 abbrev pub seenAt : Ledger → Numbered Sight → Entry
 seenAt l answer = record { ledger = l; outcome = seen answer }
 

@@ -9,7 +9,7 @@ use Rattle.cie.specs.Spacing.{mostRows}
 use Rattle.conditions.specs.declared.Conditions.{Conditions}
 use Rattle.conditions.specs.Conditions.{conditionsBy, Sound}
 use Rattle.conditions.specs.Measure.{colourUnder}
-use Rattle.book.specs.Book.{mostShades, countOf, isBook}
+use Rattle.book.specs.Book.{mostShades, isBook}
 use Rattle.book.proofs.Rules.{book-contents}
 use Rattle.nearest.specs.Rule.{NearestOutcome, answered, nearest}
 use Rattle.book_search.specs.Shades.{bookBeside}

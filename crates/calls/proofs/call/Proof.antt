@@ -1,7 +1,7 @@
 -- `calls::call` meets its contract: each arm makes the call that the definition has for its kind. Assumes nothing.
 use borrow.Author.Needs.{needs}
 use Rattle.calls.specs.Records.{Slices, slicesOf}
-use Rattle.calls.proofs.ByKind.{Kind, by-tables, by-light, by-standard, by-lab, by-luv, by-trial, by-preview, by-report}
+use Rattle.calls.proofs.ByKind.{Kind, by-tables, by-light, by-standard, by-lab, by-luv, by-trial, by-preview, by-nearest, by-report}
 use Rattle.calls.proofs.call.Statement.{statement}
 use Rattle.calls.proofs.call.Tie as tie
 
@@ -44,16 +44,21 @@ returns-7 c =
     by-preview (read (t .before)) (t .match .keys7) (c .before .before .word7 .ensures) (c .before .spectrum3 .ensures) (c .preview .ensures)
 
 returns-8 : tie.Need-returns-8
-returns-8 c =
+returns-8 c = by-nearest (read (c .before .before)) (c .before .match .keys8) (c .search .ensures)
+
+returns-9 : tie.Need-returns-9
+returns-9 c =
     let n = c .before .match .rest in
-    let n₅ = n .0 .0 in
-    let n₂ = n₅ .0 .0 .0 in
-    by-report (read (c .before .before)) (n₂ .0 .1) (n₂ .1) (n₅ .0 .0 .1) (n₅ .0 .1) (n₅ .1) (n .0 .1) (n .1) (c .report .ensures)
+    let n₆ = n .0 .0 in
+    let n₃ = n₆ .0 .0 .0 in
+    let n₂ = n₃ .0 in
+    by-report (read (c .before .before)) (n₂ .0 .1) (n₂ .1) (n₃ .1) (n₆ .0 .0 .1) (n₆ .0 .1) (n₆ .1) (n .0 .1) (n .1) (c .report .ensures)
 
 pub call-spec : {M : Type 1} → statement M
 call-spec =
     tie.close
     (tie.spec
+    (λ c κs. search needs)
     (λ c κs. search needs)
     (λ c κs. search needs)
     (λ c κs. search needs)
@@ -79,4 +84,5 @@ call-spec =
     returns-5
     returns-6
     returns-7
-    returns-8)
+    returns-8
+    returns-9)

@@ -8,7 +8,7 @@ use lib.ListN.{length, getD, drop, set, length-set}
 use lib.Seq.{sets}
 use Rattle.signed.specs.Apart.{distance}
 use Rattle.stores.proofs.Runs.{run-more, run-ended, sets-over}
-use Rattle.book.specs.Book.{countOf, numbersOf, readingsOf, isBook, spectrumOf}
+use Rattle.book.specs.Book.{numbersOf, readingsOf, isBook, spectrumOf}
 use Rattle.book.proofs.Rules.{length-numbersOf}
 use Rattle.nearest.specs.Order.{keyOf}
 use Rattle.book_search.specs.Shades.{lightnessBy, keysBy}

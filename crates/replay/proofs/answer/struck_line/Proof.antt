@@ -8,16 +8,13 @@ use Rattle.replay.proofs.answer.struck_line.Tie as tie
 
 slice-aggregate-struck : tie.Need-slice-aggregate-struck
 slice-aggregate-struck c =
-    let n = c .before .before .counted in
-    let start = c .before .before .before .before .before in
-    sym (length-take-le (n .result) (start .args .buffer .now) (omega (arith, n .ensures, start .pre .1)))
+    let b = c .before .before .before .buffer-of in
+    sym (length-take-le (b .result) (b .last .1 .1 .0) (omega (arith, b .ensures, b .kept .1 .1 .0)))
 
 struck-requires : tie.Need-struck-requires
 struck-requires c κs =
-    let n = c .before .before .counted in
-    let start = c .before .before .before .before .before in
-    let long = length-take-le (n .result) (start .args .buffer .now) (omega (arith, n .ensures, start .pre .1)) in
-    (omega (arith, n .ensures, start .pre .0, long), omega (arith, n .ensures, long))
+    let b = c .before .before .before .buffer-of in
+    omega (arith, b .ensures, length-take-le (b .result) (b .last .1 .1 .0) (omega (arith, b .ensures, b .kept .1 .1 .0)))
 
 pub struck-line-spec : {M : Type 1} → statement M
 struck-line-spec =
@@ -31,5 +28,4 @@ struck-line-spec =
     (λ c. search needs)
     slice-aggregate-struck
     struck-requires
-    (λ c. search needs)
     (λ c. search needs))
