@@ -18,11 +18,11 @@ use Rattle.shades.proofs.Spectra.{shade-sized}
 use Rattle.nearest.specs.declared.Search.{Search}
 use Rattle.nearest.specs.Rule.{Shade, NearestOutcome, answered, nearest}
 use Rattle.nearest.specs.Order.{keyRange, shadeKey, keysOf, SmallKeys, NextIs, begun, goesOn, compared}
-use Rattle.nearest.proofs.Remaining.{shadeAt, key-at, keys-length, Rising}
+use Rattle.nearest.proofs.Remaining.{noShade, shadeAt, key-at, keys-length, Rising}
 use Rattle.nearest.proofs.Turns.{Looking, first-inside, looking-first, next-inside, more-room, looking-on, looking-end}
 use Rattle.book_search.specs.Shades.{beside, bookBeside}
 use Rattle.book_search.specs.Searching.{endOf, Searchable}
-use Rattle.book_search.proofs.Beside.{beside-length, beside-at, beside-rises}
+use Rattle.book_search.proofs.Beside.{each-length, each-at, beside-rises}
 use Rattle.book_search.proofs.Theorems.{some-shade, some-budget}
 
 module _ {budget : ℕ} {swatch : Colour} {book keys : List ℕ} {c : Conditions} (given : Searchable budget swatch book keys c) (bytes : AllBelow 256 book) where
@@ -30,7 +30,7 @@ module _ {budget : ℕ} {swatch : Colour} {book keys : List ℕ} {c : Conditions
   shades = bookBeside (colourUnder c) (c .rows) swatch book
 
   shades-count : length shades ≡ countOf book
-  shades-count = beside-length (colourUnder c) (c .rows) swatch (numbersOf book) (readingsOf (c .rows) book) ∙ length-numbersOf book
+  shades-count = each-length (λ k r. beside swatch k (colourUnder c r)) (c .rows) (numbersOf book) (readingsOf (c .rows) book) ∙ length-numbersOf book
 
   pub keys-count : length keys ≡ countOf book
   keys-count = ap length (given .keyed) ∙ keys-length shades ∙ shades-count
@@ -38,7 +38,8 @@ module _ {budget : ℕ} {swatch : Colour} {book keys : List ℕ} {c : Conditions
   -- the shade at a place is the book's
   shade-here : {i : ℕ} → i < countOf book → shadeAt shades i ≡ beside swatch (getD (numbersOf book) i 0) (shadeUnder c book i)
   shade-here {i} h =
-      beside-at (colourUnder c) (c .rows) swatch (numbersOf book) (readingsOf (c .rows) book) i (omega (arith, h, length-numbersOf book))
+      each-at (λ k r. beside swatch k (colourUnder c r)) (c .rows) noShade (numbersOf book) (readingsOf (c .rows) book) i
+      (omega (arith, h, length-numbersOf book))
 
   value-here : {i e : ℕ} → i < countOf book → e ≡ labDifference swatch (shadeUnder c book i) .0 → e ≡ shadeAt shades i .e
   value-here h v = v ∙ sym (ap (λ (s : Shade). s .e) (shade-here h))

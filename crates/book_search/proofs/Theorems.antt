@@ -17,12 +17,12 @@ use Rattle.book.proofs.Tests.{in-list, in-place, at-place}
 use Rattle.book.proofs.Rising.{numbers-rise, own-place}
 use Rattle.nearest.specs.Rule.{Shade, nearest}
 use Rattle.nearest.specs.Claims.{In, Promised}
-use Rattle.nearest.proofs.Remaining.{shadeAt, Placed, placed, shade-in}
+use Rattle.nearest.proofs.Remaining.{noShade, shadeAt, Placed, placed, shade-in}
 use Rattle.nearest.proofs.Theorems.{nearest-promised}
 use Rattle.book_search.specs.Shades.{beside, bookBeside, nearestBy}
 use Rattle.book_search.specs.Searching.{emptyLook}
 use Rattle.book_search.specs.Claims.{eOf, NearestInBook}
-use Rattle.book_search.proofs.Beside.{beside-length, beside-at}
+use Rattle.book_search.proofs.Beside.{each-length, each-at}
 
 -- where there is something to look at
 positive : (n : ℕ) → (n ≡ 0 → ⊥) → 1 ≤ n
@@ -48,10 +48,13 @@ module _ (colour : List ℕ → Colour) (rows budget : ℕ) (swatch book : List 
   besideAt i = beside (colour swatch) (getD numbers i 0) (colour (spectrumOf rows (readingsOf rows book) i))
 
   shades-length : length shades ≡ length numbers
-  shades-length = beside-length colour rows (colour swatch) numbers (readingsOf rows book)
+  shades-length = each-length (λ k r. beside (colour swatch) k (colour r)) rows numbers (readingsOf rows book)
+
+  at-place-is : (i : ℕ) → i < length numbers → shadeAt shades i ≡ besideAt i
+  at-place-is i h = each-at (λ k r. beside (colour swatch) k (colour r)) rows noShade numbers (readingsOf rows book) i h
 
   placed-beside : {s : Shade} (p : Placed shades s) → s ≡ besideAt (p .i)
-  placed-beside p = p .at ∙ beside-at colour rows (colour swatch) numbers (readingsOf rows book) (p .i) (omega (arith, p .below, shades-length))
+  placed-beside p = p .at ∙ at-place-is (p .i) (omega (arith, p .below, shades-length))
 
   e-above : (s : Shade) → In s shades → s .difference ≤ s .e
   e-above s m = subst (λ (x : Shade). x .difference ≤ x .e) (sym (placed-beside (placed shades s m))) (lab-above-l (colour swatch) _)
@@ -63,7 +66,7 @@ module _ (colour : List ℕ → Colour) (rows budget : ℕ) (swatch book : List 
       let i = indexOf k numbers in
       let l : i < length numbers = in-place k numbers h in
       let e : shadeAt shades i ≡ beside (colour swatch) k (colour (spectrumOf rows (readingsOf rows book) i)) =
-      beside-at colour rows (colour swatch) numbers (readingsOf rows book) i l
+      at-place-is i l
       ∙ ap (λ (n : ℕ). beside (colour swatch) n (colour (spectrumOf rows (readingsOf rows book) i))) (at-place k numbers l) in
       subst (λ (s : Shade). In s shades) e (shade-in shades i (omega (arith, l, shades-length)))
 

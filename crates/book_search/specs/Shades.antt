@@ -14,13 +14,13 @@ use Rattle.nearest.specs.Order.{keyOf}
 abbrev pub beside : Colour → ℕ → Colour → Shade
 beside swatch number colour = record { difference = distance (swatch .l) (colour .l); number = number; e = labDifference swatch colour .0 }
 
--- some shades, their numbers and the readings of all, one shade after the other
-unfoldable pub allBeside : (List ℕ → Colour) → ℕ → Colour → List ℕ → List ℕ → List Shade
-allBeside colour rows swatch [] readings = []
-allBeside colour rows swatch (k ∷ ks) readings = beside swatch k (colour (take rows readings)) ∷ allBeside colour rows swatch ks (drop rows readings)
+-- what some shades have, each by its number and its readings: their numbers, and the readings of all, one shade after the other
+unfoldable pub eachShade : {A : Type 0} → (ℕ → List ℕ → A) → ℕ → List ℕ → List ℕ → List A
+eachShade f rows [] readings = []
+eachShade f rows (k ∷ ks) readings = f k (take rows readings) ∷ eachShade f rows ks (drop rows readings)
 
 abbrev pub bookBeside : (List ℕ → Colour) → ℕ → Colour → List ℕ → List Shade
-bookBeside colour rows swatch book = allBeside colour rows swatch (numbersOf book) (readingsOf rows book)
+bookBeside colour rows swatch book = eachShade (λ k readings. beside swatch k (colour readings)) rows (numbersOf book) (readingsOf rows book)
 
 -- "A colourist holds an unknown swatch and wants the closest shade of a book": what the search answers, for a swatch's readings
 unfoldable pub nearestBy : (List ℕ → Colour) → ℕ → ℕ → List ℕ → List ℕ → NearestOutcome
@@ -31,6 +31,5 @@ abbrev pub lightnessBy : ℕ → List ℕ → List ℕ → ℕ
 lightnessBy yn y readings = lightnessAt 1 (dot readings y) yn
 
 -- the keys of these shades, by the L that readings have: so that each shade's L is worked out once
-unfoldable pub keysBy : (List ℕ → ℕ) → ℕ → ℕ → List ℕ → List ℕ → List ℕ
-keysBy lightness rows l [] readings = []
-keysBy lightness rows l (k ∷ ks) readings = keyOf (distance l (lightness (take rows readings))) k ∷ keysBy lightness rows l ks (drop rows readings)
+abbrev pub keysBy : (List ℕ → ℕ) → ℕ → ℕ → List ℕ → List ℕ
+keysBy lightness rows l book = eachShade (λ k readings. keyOf (distance l (lightness readings)) k) rows (numbersOf book) (readingsOf rows book)

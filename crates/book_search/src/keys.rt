@@ -23,7 +23,7 @@ fn key_at(l: u32, book: &[u8], i: usize, places: &mut [u16], yn: u64, y: &[u64])
 // The keys of a book's shades beside a swatch's L, as many as the places for them.
 pub fn put_keys(keys: &mut [u64], l: u32, book: &[u8], places: &mut [u16], yn: u64, y: &[u64])
     requires { ⌜ (isBook (length (now places)) (now book) ≡ true) × (length (now keys) ≡ countOf (now book)) × (length (now places) ≤ mostRows) × Weights (now y) × (dot whiteReadings (now y) ≤ yn) × (0 < yn) ⌝ }
-    ensures { λ _. ⌜ now (keys .exit) ≡ keysBy (lightnessBy yn (now (y .entry))) (length (now (places .entry))) l (numbersOf (now (book .entry))) (readingsOf (length (now (places .entry))) (now (book .entry))) ⌝ }
+    ensures { λ _. ⌜ now (keys .exit) ≡ keysBy (lightnessBy yn (now (y .entry))) (length (now (places .entry))) l (now (book .entry)) ⌝ }
 {
     let mut i = 0;
     while i < keys.len() {

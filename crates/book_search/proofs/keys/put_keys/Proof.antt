@@ -12,13 +12,16 @@ use Rattle.book.specs.Book.{numbersOf, readingsOf, isBook, spectrumOf}
 use Rattle.book.proofs.Rules.{length-numbersOf}
 use Rattle.nearest.specs.Order.{keyOf}
 use Rattle.book_search.specs.Shades.{lightnessBy, keysBy}
-use Rattle.book_search.proofs.Beside.{keys-length, keys-at}
+use Rattle.book_search.proofs.Beside.{each-length, each-at}
 use Rattle.book_search.proofs.keys.put_keys.Statement.{statement}
 use Rattle.book_search.proofs.keys.put_keys.Tie as tie
 
--- the keys of all
+-- the key of a shade by its number and its readings, and the keys of all
+abbrev keyBy : ℕ → List ℕ → ℕ → ℕ → List ℕ → ℕ
+keyBy yn y l k readings = keyOf (distance l (lightnessBy yn y readings)) k
+
 abbrev all : ℕ → List ℕ → ℕ → ℕ → List ℕ → List ℕ
-all yn y rows l book = keysBy (lightnessBy yn y) rows l (numbersOf book) (readingsOf rows book)
+all yn y rows l book = keysBy (lightnessBy yn y) rows l book
 
 abbrev Inv-loop : tie.InvT-loop
 Inv-loop keys₀ l book places₀ yn y i₀ keys places i =
@@ -56,10 +59,10 @@ loop-again c =
     let a = s .args in
     let rows = length (a .places .now) in
     let book = a .book .now in
-    let key : ℕ → ℕ = λ n. keyOf (distance (a .l) (lightnessBy (a .yn) (a .y .now) (spectrumOf n (readingsOf n book) (l .i)))) (getD (numbersOf book) (l .i) 0) in
+    let key : ℕ → ℕ = λ n. keyBy (a .yn) (a .y .now) (a .l) (getD (numbersOf book) (l .i) 0) (spectrumOf n (readingsOf n book) (l .i)) in
     let keys = all (a .yn) (a .y .now) rows (a .l) book in
     let count = length-numbersOf book in
-    let among = keys-at (lightnessBy (a .yn) (a .y .now)) rows (a .l) (numbersOf book) (readingsOf rows book) (l .i)
+    let among = each-at (keyBy (a .yn) (a .y .now) (a .l)) rows 0 (numbersOf book) (readingsOf rows book) (l .i)
     (omega (arith, t .loop-test .taken, l .inv .1, s .pre .1, count)) in
     let stored = k .key-at .ensures .0 ∙ ap key (l .inv .2) ∙ sym among in (
       omega arith,
@@ -67,7 +70,7 @@ loop-again c =
       k .key-at .kept .1 .1 .1 .0 ∙ l .inv .2,
       ap (λ (n : ℕ). sets (set (l .keys) (l .i) n) (l .i + 1) (drop (l .i + 1) keys)) stored
           ∙ run-more (l .keys) keys (l .i)
-          (omega (arith, t .loop-test .taken, l .inv .1, s .pre .1, count, keys-length (lightnessBy (a .yn) (a .y .now)) rows (a .l) (numbersOf book) (readingsOf rows book)))
+          (omega (arith, t .loop-test .taken, l .inv .1, s .pre .1, count, each-length (keyBy (a .yn) (a .y .now) (a .l)) rows (numbersOf book) (readingsOf rows book)))
           ∙ l .inv .3,
     )
 
@@ -79,7 +82,7 @@ returns c =
     let rows = length (a .places .now) in
     let book = a .book .now in
     let keys = all (a .yn) (a .y .now) rows (a .l) book in
-    let n = keys-length (lightnessBy (a .yn) (a .y .now)) rows (a .l) (numbersOf book) (readingsOf rows book) in
+    let n = each-length (keyBy (a .yn) (a .y .now) (a .l)) rows (numbersOf book) (readingsOf rows book) in
     sym (run-ended (l .keys) keys (l .i) (omega (arith, n, length-numbersOf book, s .pre .1, l .inv .1, c .loop-test .left)))
     ∙ l .inv .3
     ∙ sets-over (a .keys .now) keys (omega (arith, n, length-numbersOf book, s .pre .1))

@@ -1,4 +1,5 @@
 -- `nearest::Search::goes_on` meets its contract: its tests are the definition's, in its order. Assumes nothing.
+use native.Mathlib.Omega.{arith}
 use borrow.Author.Needs.{needs}
 use Rattle.nearest.proofs.Held.{none-remains, budget-used, by-difference}
 use Rattle.nearest.proofs.Search.goes_on.Statement.{statement}
@@ -8,7 +9,10 @@ returns : tie.Need-returns
 returns c = none-remains _ _ _ (c .if1 .taken)
 
 returns-2 : tie.Need-returns-2
-returns-2 c = budget-used _ _ _ (c .before .before .if1 .left) (c .if2 .taken)
+returns-2 c =
+    let t = c .before .before in
+    let a = t .before .before .args in
+    budget-used (a .self) (a .keys .now) (a .budget) (t .if1 .left) (omega (arith, c .if2 .taken))
 
 returns-3 : tie.Need-returns-3
 returns-3 c =
