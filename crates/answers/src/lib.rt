@@ -1,4 +1,6 @@
 // Answers as records of thirty-two words. specs/Answers.antt lays them out.
+#![tactic(auto)]
+
 ghost use Rattle.std.specs.Prelude.{◌≡◌, ◌≤◌, [], ◌∷◌, ◌++◌, length};
 ghost use Rattle.std.proofs.lemmas.List.Edits.{sets};
 ghost use Rattle.causes.specs.Causes.{cause_number};
@@ -21,7 +23,7 @@ use trials::TrialAnswer;
 pub const ANSWER_WORDS: usize = 32;
 
 // Whether a chromaticity is there, and its x and y.
-#[derive(Drop)]
+#[derive(Clone, Copy)]
 struct Place(u32, u32, u32);
 
 fn place_of(c: Chromaticity) -> Place
@@ -44,7 +46,7 @@ fn verdict_word(v: Verdict) -> u32
 }
 
 // The space of a difference, and its units.
-#[derive(Drop)]
+#[derive(Clone, Copy)]
 struct Amount(u32, u32);
 
 fn amount_of(e: Difference) -> Amount

@@ -1,4 +1,6 @@
 // The shade book: its layout, whether bytes are a book, and `read`, which gives one shade of it.
+#![tactic(auto)]
+
 pub mod layout;
 pub mod reader;
 
@@ -8,7 +10,7 @@ ghost use Rattle.book.specs.Reading.{read_answer, found, places_after_read};
 use causes::Cause;
 
 // What a read answers: that the places hold the shade's readings, or a cause.
-#[derive(Drop)]
+#[derive(Clone, Copy)]
 pub enum Found {
     Read,
     Refused(Cause),

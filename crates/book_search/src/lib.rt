@@ -1,4 +1,6 @@
 // The nearest shade of a book under conditions, in the time there is.
+#![tactic(auto)]
+
 ghost use Rattle.std.specs.Prelude.{◌≡◌, true, false, ◌≤◌, length};
 ghost use Rattle.cie.specs.Sizes.{Sized};
 ghost use Rattle.conditions.specs.Conditions.{conditions_by, Sound};
@@ -22,7 +24,7 @@ mod comparing;
 mod keys;
 
 // What a search answers: how many full comparisons were made, the best shade's number, the gap, and the best E.
-#[derive(Drop)]
+#[derive(Clone, Copy)]
 pub struct NearestAnswer {
     pub count: u32,
     pub shade: u16,
@@ -31,7 +33,7 @@ pub struct NearestAnswer {
 }
 
 // A search's answer, or the cause against it.
-#[derive(Drop)]
+#[derive(Clone, Copy)]
 pub enum SearchResult {
     Found(NearestAnswer),
     Refused(Cause),

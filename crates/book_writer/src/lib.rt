@@ -1,4 +1,6 @@
 // The shade book's writer: `write` makes a book of shades.
+#![tactic(auto)]
+
 pub mod entry;
 mod parts;
 
@@ -11,7 +13,7 @@ use causes::Cause;
 use cie::spectrum::FRAME_LIMIT;
 
 // What a write answers: the book's length, or a cause.
-#[derive(Drop)]
+#[derive(Clone, Copy)]
 pub enum Written {
     Total(usize),
     Refused(Cause),

@@ -1,5 +1,7 @@
 // Runs a whole list of calls that is held in slices: ten words a call, with its tables, spectra and books as parts of three slices, and
 // thirty-two words for each answer. specs/Records.antt lays a call out, answers/specs/Answers.antt an answer.
+#![tactic(auto)]
+
 ghost use Rattle.std.specs.Prelude.{◌≡◌, ◌+◌, ◌<◌, length};
 ghost use Rattle.session.specs.Call.{open_tables, look};
 ghost use Rattle.session.specs.Served.{Valid};
@@ -12,7 +14,7 @@ use cie::Space;
 use session::{Served, Session};
 
 // How many calls were answered, or the cause against the run.
-#[derive(Drop)]
+#[derive(Clone, Copy)]
 pub enum Ran {
     Answered(usize),
     Refused(Cause),
@@ -50,7 +52,7 @@ fn word(words: &[u32], i: usize) -> u32
 }
 
 // Where a part of a slice begins and ends.
-#[derive(Drop)]
+#[derive(Clone, Copy)]
 struct Part {
     from: usize,
     to: usize,

@@ -1,8 +1,10 @@
 // The causes of a refusal: one for each row of document 01's table, and for each error of document 02, under its word.
+#![tactic(auto)]
+
 ghost use Rattle.std.specs.Prelude.{◌≡◌};
 ghost use Rattle.causes.specs.Causes.{cause_number};
 
-#[derive(Drop)]
+#[derive(Clone, Copy)]
 pub enum Cause {
     ShortTable,
     OverBright,
@@ -27,7 +29,7 @@ pub enum Cause {
 }
 
 // What checks in an order find: nothing, or the cause of the first that holds.
-#[derive(Drop)]
+#[derive(Clone, Copy)]
 pub enum Checked {
     Clear,
     Because(Cause),

@@ -1,4 +1,6 @@
 // The standards of document 01: the types that they speak of and the tables that they print. The formulas are in specs/.
+#![tactic(auto)]
+
 ghost use Rattle.std.specs.Prelude.{◌≡◌, ◌+◌, ◌*◌, ◌^◌, ◌<◌};
 ghost use Rattle.cie.specs.Sums.{with_row};
 
@@ -7,7 +9,7 @@ pub mod spectrum;
 pub mod tables;
 
 // X, Y and Z: the sums over the rows of a spectrum, or of the white.
-#[derive(Drop)]
+#[derive(Clone, Copy)]
 pub struct Sums {
     pub x: u64,
     pub y: u64,
@@ -29,7 +31,7 @@ impl Sums {
 }
 
 // The tristimulus values, in 1/10,000 where the white's Y is 100.
-#[derive(Drop)]
+#[derive(Clone, Copy)]
 pub struct Tristimulus {
     pub x: u32,
     pub y: u32,
@@ -37,14 +39,14 @@ pub struct Tristimulus {
 }
 
 // The chromaticity x, y, in 1/1,000,000; none where X + Y + Z is 0.
-#[derive(Drop)]
+#[derive(Clone, Copy)]
 pub enum Chromaticity {
     None,
     At(u32, u32),
 }
 
 // A colour, L, a, b, u, v and both chromas in 1/10,000.
-#[derive(Drop)]
+#[derive(Clone, Copy)]
 pub struct Colour {
     pub tristimulus: Tristimulus,
     pub chromaticity: Chromaticity,
@@ -58,22 +60,22 @@ pub struct Colour {
 }
 
 // A difference or an amount in CIELAB, in 1/10,000.
-#[derive(Drop)]
+#[derive(Clone, Copy)]
 pub struct LabUnits(pub u32);
 
 // A difference or an amount in CIELUV, in 1/10,000.
-#[derive(Drop)]
+#[derive(Clone, Copy)]
 pub struct LuvUnits(pub u32);
 
 // The two spaces of GB/T 7921-1997.
-#[derive(Drop)]
+#[derive(Clone, Copy)]
 pub enum Space {
     Cielab,
     Cieluv,
 }
 
 // What a trial finds.
-#[derive(Drop)]
+#[derive(Clone, Copy)]
 pub enum Verdict {
     Pass,
     Fail,

@@ -10,7 +10,7 @@ use crate::{ratios, steps};
 use cie::Sums;
 
 // A pair of coordinates, in 1/10,000.
-#[derive(Drop)]
+#[derive(Clone, Copy)]
 pub struct Plane {
     pub p: i32,
     pub q: i32,

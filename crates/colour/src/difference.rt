@@ -8,7 +8,7 @@ ghost use Rattle.colour.specs.Places.{squares_between};
 use cie::{Colour, LabUnits, LuvUnits};
 
 // A place in one of the spaces: L and its pair of coordinates.
-#[derive(Drop)]
+#[derive(Clone, Copy)]
 struct Place {
     l: u32,
     p: i32,

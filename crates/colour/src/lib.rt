@@ -1,4 +1,6 @@
 // From sums to a colour: its steps, lightness, coordinates, ratios and chromas, and the differences of two colours.
+#![tactic(auto)]
+
 ghost use Rattle.std.specs.Prelude.{◌≡◌, ◌*◌, ◌≤◌, ◌<◌};
 ghost use Rattle.cie.specs.Sums.{White, AtMostTwice};
 ghost use Rattle.cie.specs.Colour.{lightness_at, colour_of};
@@ -16,7 +18,7 @@ mod steps;
 pub mod white;
 
 // L, a, b, u and v of a colour, in 1/10,000.
-#[derive(Drop)]
+#[derive(Clone, Copy)]
 pub struct Coordinates {
     pub l: u32,
     pub a: i32,

@@ -51,7 +51,7 @@ pub fn step(n: u64, d: u64) -> u32
 }
 
 // Of one ratio: 1,000,000 × f, and 10,000 × L*.
-#[derive(Drop)]
+#[derive(Clone, Copy)]
 pub struct Lightness {
     pub step: u32,
     pub l: u32,

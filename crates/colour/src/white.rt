@@ -8,7 +8,7 @@ use crate::ratios::{U_FACTOR, V_FACTOR};
 use cie::Sums;
 
 // The sums of the white, with its u' and v' × 10,000,000.
-#[derive(Drop)]
+#[derive(Clone, Copy)]
 pub struct WhitePoint {
     pub sums: Sums,
     pub u: u32,

@@ -1,4 +1,6 @@
 // From tables and readings to sums: conditions are tables that pass their checks, prepared once; a spectrum is measured under them.
+#![tactic(auto)]
+
 ghost use Rattle.std.specs.Prelude.{◌≡◌, length, take};
 ghost use Rattle.causes.specs.Causes.{refusal};
 ghost use Rattle.cie.specs.Spacing.{most_rows, rows_at};
@@ -17,7 +19,7 @@ pub mod measure;
 mod weights;
 
 // The rows of a spectrum at the spacing in force, illuminant × each observer column with zeros past the last row, and the white.
-#[derive(Drop)]
+#[derive(Clone, Copy)]
 pub struct Conditions {
     pub rows: usize,
     pub x: [u64; 81],
@@ -27,7 +29,7 @@ pub struct Conditions {
 }
 
 // New conditions, or the cause against them beside none.
-#[derive(Drop)]
+#[derive(Clone, Copy)]
 pub struct Prepared {
     pub checked: Checked,
     pub conditions: Conditions,

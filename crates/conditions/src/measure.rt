@@ -13,7 +13,7 @@ use cie::{Colour, Sums};
 use colour::white::WhitePoint;
 
 // The sums of a spectrum, or the cause against it.
-#[derive(Drop)]
+#[derive(Clone, Copy)]
 pub enum Measured {
     Whole(Sums),
     Refused(Cause),

@@ -1,4 +1,6 @@
 // Little-endian numbers in byte slices: of 2 and of 4 bytes, of 4 bytes with a sign, and runs of 2 bytes each.
+#![tactic(auto)]
+
 ghost use Rattle.std.specs.Prelude.{◌≡◌, ◌+◌, ◌*◌, ◌≤◌, length};
 ghost use Rattle.std.proofs.lemmas.List.Edits.{sets};
 ghost use Rattle.endian.specs.Bytes.{le16, le32, at16, at32, words as wordsAt, bytes_of, twos};

@@ -1,4 +1,6 @@
 // Guesses of roots and quotients. Nothing is promised of a guess but its size: a wrong one costs time, and never the answer.
+#![tactic(auto)]
+
 ghost use Rattle.std.specs.Prelude.{◌^◌, ◌≤◌, ◌<◌};
 
 // A word has two halves, each below 2^32.

@@ -1,4 +1,6 @@
 // The call for a host program in C: the colour of a spectrum under a built-in light.
+#![tactic(auto)]
+
 ghost use Rattle.std.specs.Prelude.{◌≡◌, false, ◌++◌, ◌+◌, ◌^◌, ◌≤◌, ◌<◌, length};
 ghost use Rattle.std.proofs.lemmas.List.Edits.{sets};
 ghost use Rattle.cie.specs.Spacing.{unknown_spacing, rows_at, spectrum_bytes};
@@ -14,7 +16,7 @@ use colour::Coordinates;
 const ANSWER: usize = 20;
 
 // The coordinates of a spectrum, or the cause against it or its light.
-#[derive(Drop)]
+#[derive(Clone, Copy)]
 enum Coloured {
     Whole(Coordinates),
     Refused(Cause),

@@ -1,4 +1,6 @@
 // How a trial's chroma and hue differ from its standard's, in each space and in units of its own.
+#![tactic(auto)]
+
 ghost use Rattle.std.specs.Prelude.{◌≡◌};
 ghost use Rattle.cie.specs.Sizes.{Sized};
 ghost use Rattle.hue.specs.Hue.{ab_of, uv_of, shift_of};
@@ -9,15 +11,15 @@ use plane::PlaneColour;
 mod plane;
 
 // A difference with its sign in CIELAB, in 1/10,000.
-#[derive(Drop)]
+#[derive(Clone, Copy)]
 pub struct SignedLabUnits(pub i32);
 
 // A difference with its sign in CIELUV, in 1/10,000.
-#[derive(Drop)]
+#[derive(Clone, Copy)]
 pub struct SignedLuvUnits(pub i32);
 
 // Chroma difference and hue difference, trial minus standard, in CIELAB and in CIELUV.
-#[derive(Drop)]
+#[derive(Clone, Copy)]
 pub struct Shift {
     pub dcab: SignedLabUnits,
     pub dhab: SignedLabUnits,

@@ -5,7 +5,7 @@ ghost use Rattle.hue.specs.Hue.{chroma_difference, hue_square, turn, hue_differe
 ghost use Rattle.hue.specs.InPlane.{InPlane};
 
 // What a colour has in a plane: a and b, or u and v, and the chroma of that pair.
-#[derive(Drop)]
+#[derive(Clone, Copy)]
 pub struct PlaneColour {
     pub p: i32,
     pub q: i32,
@@ -13,7 +13,7 @@ pub struct PlaneColour {
 }
 
 // Chroma difference and hue difference, trial minus standard.
-#[derive(Drop)]
+#[derive(Clone, Copy)]
 pub struct PlaneShift {
     pub chroma: i32,
     pub hue: i32,

@@ -1,4 +1,6 @@
 // The sums and the white of a built-in light, straight from the tables: nothing is prepared.
+#![tactic(auto)]
+
 ghost use Rattle.std.specs.Prelude.{◌≡◌, false, ◌≤◌, length};
 ghost use Rattle.cie.specs.Spacing.{unknown_spacing, rows_at};
 ghost use Rattle.cie.specs.Sums.{sums_of, white_of};

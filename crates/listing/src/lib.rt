@@ -1,4 +1,6 @@
 // The listing of a shade book, as text in a lent buffer: a header, and a line for each shade with its colour under D65 at the book's spacing.
+#![tactic(auto)]
+
 mod line;
 
 ghost use Rattle.std.specs.Prelude.{◌≡◌, true, false, ◌+◌, ◌*◌, ◌≤◌, ◌<◌, length, get_or};

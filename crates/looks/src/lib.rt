@@ -1,4 +1,6 @@
 // The calls that only look. A look is given the conditions and what stands beside them: it is given no session, so it cannot move one.
+#![tactic(auto)]
+
 ghost use Rattle.std.specs.Prelude.{◌≡◌};
 ghost use Rattle.trials.specs.Tried.{ValidStanding};
 ghost use Rattle.looks.specs.Look.{preview, nearest};
@@ -10,7 +12,7 @@ use conditions::Conditions;
 use trials::{Standing, TrialAnswer, TrialResult};
 
 // What a look answers.
-#[derive(Drop)]
+#[derive(Clone, Copy)]
 pub enum Seen {
     Previewed(TrialAnswer),
     Nearest(NearestAnswer),

@@ -1,5 +1,7 @@
 // The nearest shade in the time there is: the order in which shades are tried, and what a search holds, apart from how shades and their
 // colours are found.
+#![tactic(auto)]
+
 ghost use Rattle.std.specs.Prelude.{◌≡◌, ◌+◌, ◌<◌, ◌^◌, length, get_or};
 ghost use Rattle.nearest.specs.Order.{key_range, key_of, SmallKeys, NextIs, number_in, begun, goes_on, is_closer, compared, gap_of};
 
@@ -28,7 +30,7 @@ pub fn first(keys: &[u64]) -> usize
 
 // A search: how many full comparisons were made, the key of the best shade and its E, and the place of the shade that is tried next, or the
 // number of shades where none remains.
-#[derive(Drop)]
+#[derive(Clone, Copy)]
 pub struct Search {
     pub count: u32,
     best: u64,

@@ -1,4 +1,6 @@
 // Pile fabric is measured at several spots: `pool` makes one spectrum of them.
+#![tactic(auto)]
+
 ghost use Rattle.std.specs.Prelude.{◌≡◌, ◌<◌, length};
 ghost use Rattle.pool.specs.Spots.{off_count, spots_of, at_row, sum_of, pooled_reading, pooled_spectrum, WholeSpots};
 ghost use Rattle.pool.specs.Pooling.{pool_answer, pooled, places_after_pool};
@@ -12,7 +14,7 @@ const FEWEST_SPOTS: u32 = 2;
 pub const MOST_SPOTS: u32 = 16;
 
 // What a pooling answers: that the places hold the pooled spectrum, or a cause.
-#[derive(Drop)]
+#[derive(Clone, Copy)]
 pub enum Pooled {
     Whole,
     Refused(Cause),

@@ -1,4 +1,6 @@
 // The calls of a book, the pooling of spots, the run of a list of calls and a run of trials, for tests and benchmarks in C: no part of the product.
+#![tactic(auto)]
+
 ghost use Rattle.std.specs.Prelude.{◌≡◌, length};
 ghost use Rattle.book.specs.Reading.{found, places_after_read};
 ghost use Rattle.book_writer.specs.Writing.{written, buffer_after_write};

@@ -18,7 +18,7 @@ pub const BYTES: usize = HEAD + (ENTRY + READING_BYTES * MOST_ROWS) * MOST_SHADE
 pub const ENTRIES: usize = STRETCH + BYTES;
 
 // What a line asks for: a call of the session, one with a book, spots pooled, or a shade struck.
-#[derive(Drop)]
+#[derive(Clone, Copy)]
 pub enum Asked {
     Call,
     Search,
@@ -27,7 +27,7 @@ pub enum Asked {
 }
 
 // What may come next.
-#[derive(Drop)]
+#[derive(Clone, Copy)]
 pub enum Stage {
     Start,
     Space,

@@ -5,7 +5,7 @@ use crate::form::{Asked, BUDGET, LENGTH, NUMBER, SPACING, SPOTS, STRETCH, Stage,
 use crate::token::Token;
 use crate::{command, hex};
 
-#[derive(Drop)]
+#[derive(Clone, Copy)]
 pub struct Line {
     pub stage: Stage,
     pub asked: Asked,

@@ -1,4 +1,6 @@
 // Replays a script: one call, pooling or strike a line on standard input, and for each its answer, a line on standard output.
+#![tactic(auto)]
+
 ghost use Rattle.session.specs.Served.{Valid};
 
 use form::ENTRIES;
@@ -17,7 +19,7 @@ mod reader;
 mod token;
 
 // The session, what has been read of the line that is not ended, and whether the script may go on.
-#[derive(Drop)]
+#[derive(Clone, Copy)]
 pub struct Played {
     session: Session,
     reader: Reader,

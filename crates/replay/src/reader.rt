@@ -2,7 +2,7 @@
 use crate::line::Line;
 use crate::token::Token;
 
-#[derive(Drop)]
+#[derive(Clone, Copy)]
 pub struct Reader {
     line: Line,
     token: Token,

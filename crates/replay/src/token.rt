@@ -7,7 +7,7 @@ const VALUE_ROOM: u64 = 1844674407370955160;
 
 const LARGEST: u64 = 18446744073709551615;
 
-#[derive(Drop)]
+#[derive(Clone, Copy)]
 pub struct Token {
     // its letters a to z as digits 1 to 26 in base 32
     code: u64,

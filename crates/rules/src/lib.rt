@@ -1,4 +1,6 @@
 // What the calls decide by: the tolerance, what must stand before a trial, the verdict.
+#![tactic(auto)]
+
 ghost use Rattle.std.specs.Prelude.{◌≡◌, ltb};
 ghost use Rattle.rules.specs.Standing.{tolerance_limit};
 ghost use Rattle.rules.specs.Rules.{tolerance_of};
@@ -9,7 +11,7 @@ pub mod judging;
 pub mod standing;
 
 // None, or an amount in one of the two spaces.
-#[derive(Drop)]
+#[derive(Clone, Copy)]
 pub enum Tolerance {
     Unset,
     Lab(LabUnits),
@@ -17,21 +19,21 @@ pub enum Tolerance {
 }
 
 // The colour of the standard in force.
-#[derive(Drop)]
+#[derive(Clone, Copy)]
 pub enum Standard {
     Missing,
     Of(Colour),
 }
 
 // E in the tolerance's space.
-#[derive(Drop)]
+#[derive(Clone, Copy)]
 pub enum Difference {
     Lab(LabUnits),
     Luv(LuvUnits),
 }
 
 // E and its verdict; neither where there is no standard or no tolerance.
-#[derive(Drop)]
+#[derive(Clone, Copy)]
 pub enum Judged {
     Without,
     By(Difference, Verdict),

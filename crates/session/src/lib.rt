@@ -1,5 +1,7 @@
 // A session that judges trials against a standard: conditions, a standard, a tolerance and three tallies for each
 // inspection table, by value.
+#![tactic(auto)]
+
 ghost use Rattle.std.specs.Prelude.{◌≡◌};
 ghost use Rattle.cie.specs.Sums.{tables_of};
 ghost use Rattle.trials.specs.Tried.{tried_answer};
@@ -19,7 +21,7 @@ use trials::{Standing, TrialAnswer, TrialResult};
 
 mod look;
 
-#[derive(Drop)]
+#[derive(Clone, Copy)]
 pub struct Session {
     conditions: Conditions,
     opened: bool,
@@ -29,13 +31,13 @@ pub struct Session {
 }
 
 // What a report answers: the tallies of each table.
-#[derive(Drop)]
+#[derive(Clone, Copy)]
 pub struct ReportAnswer {
     pub tallies: EightSets,
 }
 
 // What a call answers.
-#[derive(Drop)]
+#[derive(Clone, Copy)]
 pub enum Answer {
     Accepted,
     Coloured(Colour),
@@ -46,7 +48,7 @@ pub enum Answer {
 }
 
 // The session that a call leaves, beside its answer.
-#[derive(Drop)]
+#[derive(Clone, Copy)]
 pub struct Served {
     pub session: Session,
     pub answer: Answer,

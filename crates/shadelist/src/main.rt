@@ -1,5 +1,7 @@
 // Lists the shades of the book on standard input. One byte more than the longest book, 6 + 170 × 200 bytes, is read, so that a
 // longer input is no book.
+#![tactic(auto)]
+
 use libc::{STDIN_FILENO, STDOUT_FILENO};
 
 fn main() {

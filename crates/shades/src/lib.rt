@@ -1,4 +1,6 @@
 // A book's shades under conditions: the colour of each, and its L alone.
+#![tactic(auto)]
+
 ghost use Rattle.std.specs.Prelude.{◌≡◌, true, ◌≤◌, ◌<◌, length};
 ghost use Rattle.cie.specs.Spacing.{most_rows};
 ghost use Rattle.cie.specs.Colour.{lightness_at};

@@ -1,4 +1,6 @@
 // Runs of stores: words put one after the other into a part that is lent. proofs/Runs.antt has the laws of such runs, for buffers of any width.
+#![tactic(auto)]
+
 ghost use Rattle.std.specs.Prelude.{◌≡◌, ◌≤◌, length};
 ghost use Rattle.std.proofs.lemmas.List.Edits.{sets};
 

@@ -1,4 +1,6 @@
 // Mills drop shades each season: `strike` takes a shade out of a shade book, in place.
+#![tactic(auto)]
+
 mod closing;
 mod parts;
 
@@ -9,7 +11,7 @@ use book::{layout, reader};
 use causes::Cause;
 
 // What a strike answers: the length of the book that is left, or a cause.
-#[derive(Drop)]
+#[derive(Clone, Copy)]
 pub enum Struck {
     Left(usize),
     Refused(Cause),

@@ -1,4 +1,6 @@
 // Verdicts counted by inspection table: three tallies for each of the eight that feed the frame.
+#![tactic(auto)]
+
 ghost use Rattle.std.specs.Prelude.{◌≡◌, ◌≤◌};
 ghost use Rattle.tallies.specs.ByTable.{is_table, table_limit, is_full};
 ghost use Rattle.tallies.specs.Tallies.{no_sets, tally_sum, tallied_by, set_of, tallied_for, each_of, Within};
@@ -12,7 +14,7 @@ const TABLES: u32 = 8;
 const TABLE_LIMIT: u32 = 100000;
 
 // How many trials were given each verdict.
-#[derive(Drop)]
+#[derive(Clone, Copy)]
 pub struct Tallies {
     pub passed: u32,
     pub failed: u32,
@@ -27,13 +29,13 @@ const NONE: Tallies = Tallies {
 };
 
 // A set of tallies for each table, that of table 1 first.
-#[derive(Drop)]
+#[derive(Clone, Copy)]
 pub struct TableTallies {
     sets: [Tallies; 8],
 }
 
 // The sets of tables 1 to 8, under a name each.
-#[derive(Drop)]
+#[derive(Clone, Copy)]
 pub struct EightSets {
     pub first: Tallies,
     pub second: Tallies,

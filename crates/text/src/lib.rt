@@ -1,4 +1,6 @@
 // Text in a lent buffer: bytes, numbers and signed numbers, each put at a place. Each call answers the place after it.
+#![tactic(auto)]
+
 ghost use Rattle.std.specs.Prelude.{◌+◌, ◌≤◌, length};
 ghost use Rattle.text.specs.Text.{decimal, signed, Put};
 

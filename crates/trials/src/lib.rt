@@ -1,5 +1,7 @@
 // A trial worked out, apart from where a session lies: it is given the conditions and what stands beside them, and no session. A trial and a
 // preview of one are both worked out here.
+#![tactic(auto)]
+
 ghost use Rattle.std.specs.Prelude.{◌≡◌};
 ghost use Rattle.conditions.specs.Conditions.{conditions_by};
 ghost use Rattle.tallies.specs.Tallies.{Within};
@@ -16,7 +18,7 @@ use rules::{Difference, Judged, Standard, Tolerance, judging};
 use tallies::TableTallies;
 
 // What a session holds beside its conditions.
-#[derive(Drop)]
+#[derive(Clone, Copy)]
 pub struct Standing {
     pub opened: bool,
     pub standard: Standard,
@@ -25,7 +27,7 @@ pub struct Standing {
 }
 
 // What a trial answers: its colour, E in the tolerance's space, and the verdict.
-#[derive(Drop)]
+#[derive(Clone, Copy)]
 pub struct TrialAnswer {
     pub colour: Colour,
     pub difference: Difference,
@@ -33,14 +35,14 @@ pub struct TrialAnswer {
 }
 
 // A trial's answer, or the cause against it.
-#[derive(Drop)]
+#[derive(Clone, Copy)]
 pub enum TrialResult {
     Answered(TrialAnswer),
     Refused(Cause),
 }
 
 // What a trial finds, beside the tallies after it.
-#[derive(Drop)]
+#[derive(Clone, Copy)]
 pub struct Tried {
     pub found: TrialResult,
     pub tallies: TableTallies,

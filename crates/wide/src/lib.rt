@@ -3,6 +3,8 @@
 // A quotient or a root is guessed, and two comparisons show whether the guess is right: nothing is promised of a guess but its size. Where
 // neither the guess nor the number before it is right, the result is searched for by halving, in 32 bits. A search holds a number that is not above
 // the result, and half of the way from there to a number above it. The latter, 2^32 at first for a square root, is never formed.
+#![tactic(auto)]
+
 ghost use Rattle.std.specs.Prelude.{◌≡◌, ◌+◌, ◌*◌, ◌/◌, ◌^◌, ◌<◌, nat_le};
 ghost use Rattle.wide.specs.Roots.{is_last, quotient_below};
 ghost use Rattle.wide.specs.Words.{value};
@@ -11,7 +13,7 @@ pub mod ratios;
 pub mod roots;
 
 // hi × 2^64 + lo.
-#[derive(Drop)]
+#[derive(Clone, Copy)]
 pub struct Wide {
     pub hi: u64,
     pub lo: u64,
