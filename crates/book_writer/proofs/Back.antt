@@ -78,8 +78,8 @@ module _ (rows : ℕ) (fits : body_length rows < 65536) (q : List ℕ) where
   numbers_read [] o b = refl
   numbers_read (k ∷ ns) o b =
       let r : List ℕ = contents_of rows (o + body_length rows) ns ++ q in
-      rw (
-        append_assoc (entry_of rows k o) (contents_of rows (o + body_length rows) ns) q,
+      ap (λ (s : List ℕ). words s 0 entry_length (suc (length ns))) (append_assoc (entry_of rows k o) (contents_of rows (o + body_length rows) ns) q)
+      ∙ rw (
         entry_number rows k o r (b 0),
         words_next rows k o r (b 0) (length ns),
         numbers_read ns (o + body_length rows) (tail_below ns b),
@@ -91,8 +91,9 @@ module _ (rows : ℕ) (fits : body_length rows < 65536) (q : List ℕ) where
   entries_read [] before o b h = refl
   entries_read (k ∷ ns) before o b h =
       let r : List ℕ = contents_of rows (o + body_length rows) ns ++ q in
-      rw (
-        append_assoc (entry_of rows k o) (contents_of rows (o + body_length rows) ns) q,
+      ap (λ (s : List ℕ). entries_ok rows s 0 before o (suc (length ns)))
+      (append_assoc (entry_of rows k o) (contents_of rows (o + body_length rows) ns) q)
+      ∙ rw (
         entry_ok_lem rows k o r (b 0) before fits (omega arith),
         entry_number rows k o r (b 0),
         entries_next rows k o r (b 0) (length ns) k (o + body_length rows),

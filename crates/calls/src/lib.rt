@@ -118,7 +118,7 @@ fn search(s: Session, words: &[u32], spectra: &[u16], books: &[u8]) -> Served
 // Opens the tables that a record names.
 fn open_tables(s: Session, words: &[u32], tables: &[u32]) -> Served
     requires { Valid s }
-    ensures { Meets s (open-tables (tables_at tables.now words.now)) result }
+    ensures { Meets s (open_tables (tables_at tables.now words.now)) result }
 {
     let illuminant = table(tables, words, 1);
     let x = table(tables, words, 3);

@@ -101,7 +101,7 @@ words-bytes_of (x ∷ xs) q b =
     ap (λ (i : ℕ). words (le16 x ++ r) i 2 (length xs)) (omega (arith, length-little_endian 2 x))
     ∙ words_behind (le16 x) r (length xs) 0 2
     ∙ words-bytes_of xs q (tail_below xs b) in
-    rw (append_assoc (le16 x) (bytes_of xs) q, number_at-front 2 x r (b 0), next)
+    ap (λ (s : List ℕ). words s 0 2 (suc (length xs))) (append_assoc (le16 x) (bytes_of xs) q) ∙ rw (number_at-front 2 x r (b 0), next)
 
 pub bytes_of-words : (s : List ℕ) → AllBelow 256 s → (n at : ℕ) → at + 2 * n ≤ length s → bytes_of (words s at 2 n) ≡ part s at (2 * n)
 unfolding bytes_of words

@@ -153,7 +153,7 @@ impl Session {
         z: &[u32],
     ) -> Served
         requires { Valid self }
-        ensures { Meets self (open-tables (tables_of spacing illuminant.now x.now y.now z.now)) result }
+        ensures { Meets self (open_tables (tables_of spacing illuminant.now x.now y.now z.now)) result }
     {
         let prepared = conditions::prepare(spacing, illuminant, x, y, z);
         let checked = prepared.checked;
@@ -167,7 +167,7 @@ impl Session {
     // Opens a built-in light at a spacing in nm, 5 or 10: 1 is A, 2 is D65.
     pub fn open_light(self, light: u32, spacing: u32) -> Served
         requires { Valid self }
-        ensures { Meets self (open-light light spacing) result }
+        ensures { Meets self (open_light light spacing) result }
     {
         let prepared = conditions::prepare_light(light, spacing);
         let checked = prepared.checked;
@@ -181,7 +181,7 @@ impl Session {
     // Sets the standard, and answers its colour.
     pub fn set_standard(self, readings: &[u16]) -> Served
         requires { Valid self }
-        ensures { Meets self (set-standard readings.now) result }
+        ensures { Meets self (set_standard readings.now) result }
     {
         if !self.opened {
             return self.refused(Cause::NoConditions);
@@ -205,7 +205,7 @@ impl Session {
     // Sets the tolerance.
     pub fn set_tolerance(self, space: Space, amount: u32) -> Served
         requires { Valid self }
-        ensures { Meets self (set-tolerance space amount) result }
+        ensures { Meets self (set_tolerance space amount) result }
     {
         if rules::off_scale(amount) {
             return self.refused(Cause::ToleranceOffScale);

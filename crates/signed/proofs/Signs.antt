@@ -33,7 +33,7 @@ apart_within x y h k = omega (arith, apart_parts x y, parts_within x (2 ^ 31) h.
 
 -- a number of 32 bits, read as one of 64
 pub widened : (z : ℤ) → SFits w32 z → to_z w64 (of_z w64 (to_z w32 (of_z w32 z))) ≡ z
-widened z h = ap (λ (y : ℤ). to_z w64 (of_z w64 y)) (to_z-of_z h) ∙ to_z-of_z (sfits_widen {w = w32} tt h)
+widened z h = ap (λ (y : ℤ). to_z w64 (of_z w64 y)) (to_z-of_z h) ∙ to_z-of_z {w = w64} (sfits_widen {w = w32} tt h)
 
 -- 0 less z is as large as z
 pub abs_neg : (z : ℤ) → nat_abs (pos 0 -ℤ z) ≡ nat_abs z
