@@ -1,6 +1,6 @@
 /* Prints the colour of a flat spectrum under light 2, read every 5 nm and every 10 nm, and shows two refused calls.
  *
- *   rt staticlib host
+ *   tools/build host
  *   gcc -Wall -Wextra -Werror -I include examples/host.c target/staticlib/libhost.a -o target/host && target/host
  *
  * prints

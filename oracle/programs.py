@@ -15,8 +15,8 @@ REPLAY = ROOT / "target/bin/replay"
 SHADELIST = ROOT / "target/bin/shadelist"
 HOST = ROOT / "target/staticlib/libhost.a"
 PROBE = ROOT / "target/staticlib/libprobe.a"
-BUILT_BY = {REPLAY: "rt check", SHADELIST: "rt check", HOST: "rt staticlib host",
-            PROBE: "rt staticlib probe"}
+BUILT_BY = {REPLAY: "tools/build replay", SHADELIST: "tools/build shadelist",
+            HOST: "tools/build host", PROBE: "tools/build probe"}
 RESULT_BYTES = 8
 
 
