@@ -54,6 +54,7 @@ impl Search {
     }
 
     // Whether the next shade is tried.
+    #[tactic(auto, unfolding(crate::specs::Order::goes_on))]
     pub fn goes_on(self, budget: u32, keys: &[u64]) -> bool
         ensures { result ≡ goes_on self budget keys.now }
     {
@@ -81,6 +82,7 @@ impl Search {
     }
 
     // After one full comparison more, with the shade that was next.
+    #[tactic(auto, unfolding(crate::specs::Order::compared))]
     pub fn compared(self, keys: &[u64], e: u32) -> Search
         requires { SmallKeys keys.now × (self.next < length keys.now) × (self.count + 1 < 2 ^ 32) }
         ensures { (result ≡ compared self (get_or keys.now self.next 0) e result.next) × NextIs keys.now (get_or keys.now self.next 0 + 1) result.next }
@@ -113,6 +115,7 @@ impl Search {
     }
 
     // The best E less the next difference of L, 0 where that is negative or no shade remains.
+    #[tactic(auto, unfolding(crate::specs::Order::gap_of))]
     pub fn gap(self, keys: &[u64]) -> u32
         ensures { result ≡ gap_of self keys.now }
     {
