@@ -11,7 +11,7 @@ pub verdicts_right : VerdictsRight
 verdicts_right =
     record {
       right =
-      λ k w s t T W S S'. elim k
-      as (λ (v : Space). Told v (squares_at v w s t) T (verdict_of (margin v) (difference v (colour_of w s) (colour_of w t)) T))
-      [ Cielab ↦ cielab_right w s t W T | Cieluv ↦ cieluv_right w s t W S S' T ];
+          λ k w s t T W S S'. elim k
+          as (λ (v : Space). Told v (squares_at v w s t) T (verdict_of (margin v) (difference v (colour_of w s) (colour_of w t)) T))
+          [ Cielab ↦ cielab_right w s t W T | Cieluv ↦ cieluv_right w s t W S S' T ];
     }

@@ -28,6 +28,7 @@ pub fn is_unknown(spacing: u32) -> bool
 }
 
 // The rows at a spacing.
+#[tactic(auto, unfolding(crate::specs::Spacing::rows_at))]
 pub fn rows_at(spacing: u32) -> usize
     ensures { (result ≡ rows_at spacing) × (0 < result) × (result ≤ most_rows) }
 {
@@ -38,6 +39,7 @@ pub fn rows_at(spacing: u32) -> usize
 }
 
 // The spacing of a spectrum that has so many bytes.
+#[tactic(auto, unfolding(crate::specs::Spacing::spacing_told))]
 pub fn told_by(bytes: usize) -> u32
     ensures { result ≡ spacing_told bytes }
 {

@@ -86,6 +86,7 @@ fn table_at(table: [u32; 81], spacing: u32) -> [u32; 81]
 }
 
 // The observer's column x at a spacing, in 1/1,000,000.
+#[tactic(auto, unfolding(crate::specs::Tables::observer_x))]
 pub fn observer_x(spacing: u32) -> [u32; 81]
     ensures { result ≡ filled (table_at spacing observer_x) }
 {
@@ -93,6 +94,7 @@ pub fn observer_x(spacing: u32) -> [u32; 81]
 }
 
 // The observer's column y at a spacing, in 1/1,000,000.
+#[tactic(auto, unfolding(crate::specs::Tables::observer_y))]
 pub fn observer_y(spacing: u32) -> [u32; 81]
     ensures { result ≡ filled (table_at spacing observer_y) }
 {
@@ -100,6 +102,7 @@ pub fn observer_y(spacing: u32) -> [u32; 81]
 }
 
 // The observer's column z at a spacing, in 1/1,000,000.
+#[tactic(auto, unfolding(crate::specs::Tables::observer_z))]
 pub fn observer_z(spacing: u32) -> [u32; 81]
     ensures { result ≡ filled (table_at spacing observer_z) }
 {
@@ -107,6 +110,7 @@ pub fn observer_z(spacing: u32) -> [u32; 81]
 }
 
 // Illuminant A at a spacing, in 1/10,000.
+#[tactic(auto, unfolding(crate::specs::Tables::illuminant_a))]
 pub fn illuminant_a(spacing: u32) -> [u32; 81]
     ensures { result ≡ filled (table_at spacing illuminant_a) }
 {
@@ -114,6 +118,7 @@ pub fn illuminant_a(spacing: u32) -> [u32; 81]
 }
 
 // Illuminant D65 at a spacing, in 1/10,000.
+#[tactic(auto, unfolding(crate::specs::Tables::illuminant_d65))]
 pub fn illuminant_d65(spacing: u32) -> [u32; 81]
     ensures { result ≡ filled (table_at spacing illuminant_d65) }
 {
