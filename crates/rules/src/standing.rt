@@ -30,6 +30,7 @@ fn has_tolerance(tolerance: Tolerance) -> bool
 }
 
 // The first of the checks 18, 6, 7, 8 and 10 of a trial for a table that holds.
+#[tactic(auto, unfolding(causes::specs::Checks::first_of))]
 pub fn stands(
     table: u32,
     opened: bool,
