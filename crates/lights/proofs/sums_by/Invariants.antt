@@ -1,0 +1,13 @@
+-- What is kept: the sums so far and the rows that are left make the whole, by weights at the rows of the spacing. Assumes nothing.
+use Rattle.std.proofs.Common.{length, ◌-◌, ◌≤◌}
+use Rattle.conditions.specs.Weights.{Begun}
+use Rattle.lights.proofs.LightRows.{weights_at}
+use Rattle.lights.proofs.sums_by.Given as goal
+
+abbrev pub invariant-loop-i : goal.invariant-loop-i
+invariant-loop-i l =
+    (l.i ≤ length l.readings)
+    × Begun l.readings (weights_at l.fn.spacing l.illuminant l.x) (weights_at l.fn.spacing l.illuminant l.y) (weights_at l.fn.spacing l.illuminant l.z) l.sums l.i
+
+abbrev pub decreases-loop-i : goal.decreases-loop-i
+decreases-loop-i l = length l.readings - l.i

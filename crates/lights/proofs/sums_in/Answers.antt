@@ -1,0 +1,21 @@
+-- The constants are the built-in tables. Assumes nothing.
+use Rattle.std.proofs.Common.{List, ℕ, sym, ap, subst, ◌∙◌}
+use Rattle.cie.specs.Tables.{observer_x, observer_y, observer_z}
+use Rattle.cie.specs.Sums.{sums_of}
+use Rattle.lights.specs.Lights.{Whole, tables_at}
+use Rattle.lights.proofs.LightRows.{whole_in}
+use Rattle.lights.proofs.sums_in.Goals as goal
+
+pub sums_by-requires : goal.sums_by-requires
+unfolding observer_x observer_y observer_z
+sums_by-requires c = (
+  c.requires.0,
+  c.requires.1,
+  subst (λ (l : List ℕ). Whole l observer_x observer_y observer_z) (sym c.illuminant_of-illuminant.ensures) (whole_in c.args.light),
+)
+
+pub returns : goal.returns
+unfolding observer_x observer_y observer_z
+returns c =
+    c.sums_by.ensures
+    ∙ ap (λ (l : List ℕ). sums_of (tables_at c.args.spacing l observer_x observer_y observer_z) c.args.readings.now) c.illuminant_of-illuminant.ensures
