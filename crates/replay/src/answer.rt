@@ -1,5 +1,5 @@
 // A line's call made, its spots pooled or its shade struck, and the answer printed.
-ghost use Rattle.std.specs.Prelude.{◌≤◌, length};
+ghost use Rattle.std.specs.Prelude.{◌≤◌, length, IfOk};
 ghost use Rattle.cie.specs.Spacing.{most_rows};
 ghost use Rattle.session.specs.Served.{Valid};
 
@@ -10,6 +10,7 @@ use crate::{beside, line, print};
 use cie::spacing::MOST_ROWS;
 use pool::Pooled;
 use session::{Answer, Session};
+use std::io::Result;
 use strike::Struck;
 
 // The number, or the largest of 16 bits.
@@ -32,26 +33,39 @@ fn put_readings(entries: &[u32], readings: &mut [u16])
 }
 
 // Makes the call of a line, with the book that it has, and prints its answer.
-fn called(session: Session, record: &[u32], entries: &[u32; 34089], book: &[u8]) -> Session
+fn called(
+    rt: &impl Print,
+    session: Session,
+    record: &[u32],
+    entries: &[u32; 34089],
+    book: &[u8],
+) -> Result<Session>
     requires { Valid session }
-    ensures { Valid result }
+    ensures { IfOk result Valid }
 {
     let mut readings = [0u16; STRETCH];
     put_readings(entries, &mut readings);
     let served = calls::call(session, record, entries, &readings, book);
     let answer = served.answer;
-    print::print(answer);
-    served.session
+    print::print(rt, answer)?;
+    Ok(served.session)
 }
 
 // Pools the first entries, into as many places as the spacing has rows, and prints the spectrum.
-fn pooled(spacing: u32, count: u32, entries: &[u32], spots: &mut [u16], places: &mut [u16])
+fn pooled(
+    rt: &impl Print,
+    spacing: u32,
+    count: u32,
+    entries: &[u32],
+    spots: &mut [u16],
+    places: &mut [u16],
+) -> Result<()>
     requires { (length spots.old ≤ length entries.now) × (length places.old ≤ most_rows) }
 {
     put_readings(entries, spots);
     match pool::pool(spacing, count, spots, places) {
-        Pooled::Whole => beside::print_spectrum(places),
-        Pooled::Refused(cause) => print::print(Answer::Refused(cause)),
+        Pooled::Whole => beside::print_spectrum(rt, places),
+        Pooled::Refused(cause) => print::print(rt, Answer::Refused(cause)),
     }
 }
 
@@ -67,19 +81,26 @@ fn counted(n: u32, room: usize) -> usize
 }
 
 // Answers the line of a pooling, in room that is lent for its spots and its spectrum.
-fn pooled_line(record: [u32; 10], entries: &[u32], spots: &mut [u16], places: &mut [u16])
+fn pooled_line(
+    rt: &impl Print,
+    record: [u32; 10],
+    entries: &[u32],
+    spots: &mut [u16],
+    places: &mut [u16],
+) -> Result<()>
     requires { (1297 ≤ length entries.now) × (1297 ≤ length spots.old) × (most_rows ≤ length places.old) }
 {
     let n = counted(record[LENGTH], SPOTS);
     let spacing = record[SPACING];
     let rows = cie::spacing::rows_at(spacing);
     pooled(
+        rt,
         spacing,
         record[NUMBER],
         entries,
         &mut spots[..n],
         &mut places[..rows],
-    );
+    )
 }
 
 // The first entries as bytes.
@@ -104,67 +125,77 @@ fn buffer_of(digits: u32, entries: &[u32], room: &mut [u8]) -> usize
 }
 
 // Strikes a shade of the book that fills a buffer, and prints what is left.
-fn struck(spacing: u32, number: u16, buffer: &mut [u8])
+fn struck(rt: &impl Print, spacing: u32, number: u16, buffer: &mut [u8]) -> Result<()>
     requires { length buffer.old ≤ 34007 }
 {
     match strike::strike(spacing, number, buffer) {
-        Struck::Left(left) => beside::print_struck(line::capped(left as u64), buffer),
-        Struck::Refused(cause) => print::print(Answer::Refused(cause)),
+        Struck::Left(left) => beside::print_struck(rt, line::capped(left as u64), buffer),
+        Struck::Refused(cause) => print::print(rt, Answer::Refused(cause)),
     }
 }
 
 // Answers the line of a strike.
-fn struck_line(line: Line, entries: &[u32])
+fn struck_line(rt: &impl Print, line: Line, entries: &[u32]) -> Result<()>
     requires { 34089 ≤ length entries.now }
 {
     let record = line.record;
     let mut buffer = [0u8; BYTES];
     let n = buffer_of(line.digits, entries, &mut buffer);
-    struck(record[SPACING], short(record[NUMBER]), &mut buffer[..n]);
+    struck(rt, record[SPACING], short(record[NUMBER]), &mut buffer[..n])
 }
 
 // Answers the line of a search.
-fn searched_line(session: Session, line: Line, entries: &[u32; 34089]) -> Session
+fn searched_line(
+    rt: &impl Print,
+    session: Session,
+    line: Line,
+    entries: &[u32; 34089],
+) -> Result<Session>
     requires { Valid session }
-    ensures { Valid result }
+    ensures { IfOk result Valid }
 {
     let mut record = line.record;
     let mut buffer = [0u8; BYTES];
     let n = buffer_of(line.digits, entries, &mut buffer);
     record[BOOK_LENGTH] = n as u32;
-    called(session, &record, entries, &buffer[..n])
+    called(rt, session, &record, entries, &buffer[..n])
 }
 
 // Answers the line that ends here, and returns the session that it leaves. An empty line is passed over.
-pub fn answered(session: Session, reader: Reader, entries: &mut [u32; 34089]) -> Session
+pub fn answered(
+    rt: &impl Print,
+    session: Session,
+    reader: Reader,
+    entries: &mut [u32; 34089],
+) -> Result<Session>
     requires { Valid session }
-    ensures { Valid result }
+    ensures { IfOk result Valid }
 {
     let line = reader.ended(entries);
     let stage = line.stage;
     let asked = line.asked;
     match stage {
-        Stage::Start => session,
+        Stage::Start => Ok(session),
         Stage::End => {
             let record = line.record;
             match asked {
-                Asked::Call => called(session, &record, entries, b""),
-                Asked::Search => searched_line(session, line, entries),
+                Asked::Call => called(rt, session, &record, entries, b""),
+                Asked::Search => searched_line(rt, session, line, entries),
                 Asked::Pool => {
                     let mut spots = [0u16; SPOTS];
                     let mut places = [0u16; MOST_ROWS];
-                    pooled_line(record, entries, &mut spots, &mut places);
-                    session
+                    pooled_line(rt, record, entries, &mut spots, &mut places)?;
+                    Ok(session)
                 }
                 Asked::Strike => {
-                    struck_line(line, entries);
-                    session
+                    struck_line(rt, line, entries)?;
+                    Ok(session)
                 }
             }
         }
         _ => {
-            print::print_unreadable();
-            session
+            print::print_unreadable(rt)?;
+            Ok(session)
         }
     }
 }

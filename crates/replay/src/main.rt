@@ -1,12 +1,13 @@
 // Replays a script: one call, pooling or strike a line on standard input, and for each its answer, a line on standard output.
 #![tactic(auto)]
 
+ghost use Rattle.std.specs.Prelude.{IfOk};
 ghost use Rattle.session.specs.Served.{Valid};
 
 use form::ENTRIES;
-use libc::STDIN_FILENO;
 use reader::Reader;
 use session::Session;
+use std::io::{Read, Result};
 
 mod answer;
 mod beside;
@@ -27,9 +28,9 @@ pub struct Played {
 }
 
 // Plays a piece of the script: each line that ends in it is answered.
-fn play(played: Played, piece: &[u8], entries: &mut [u32; 34089]) -> Played
+fn play(rt: &impl Print, played: Played, piece: &[u8], entries: &mut [u32; 34089]) -> Result<Played>
     requires { Valid played.session }
-    ensures { Valid result.session }
+    ensures { IfOk result (λ next. Valid next.session) }
 {
     let mut session = played.session;
     let mut reader = played.reader;
@@ -41,44 +42,45 @@ fn play(played: Played, piece: &[u8], entries: &mut [u32; 34089]) -> Played
             reader = reader.with_byte(byte, entries);
             continue;
         }
-        session = answer::answered(session, reader, entries);
+        session = answer::answered(rt, session, reader, entries)?;
         reader = Reader::new();
     }
-    Played {
+    Ok(Played {
         session: session,
         reader: reader,
         more: 0 < piece.len(),
-    }
+    })
 }
 
 // Plays the whole script, a piece at a time. A proved loop has to end, and nothing says that a script does: so the loop counts
 // its turns down, from a number that no run uses up.
-fn play_all(played: Played, entries: &mut [u32; 34089]) -> Played
+fn play_all(rt: &(impl Input + Print), played: Played, entries: &mut [u32; 34089]) -> Result<Played>
     requires { Valid played.session }
-    ensures { Valid result.session }
+    ensures { IfOk result (λ next. Valid next.session) }
 {
+    let mut input = rt.reader();
     let mut next = played;
     let mut turns = u64::MAX;
     while turns > 0 && next.more {
-        let mut piece = io::large_buffer();
-        let got = libc::read(STDIN_FILENO, &mut piece);
-        let n = io::count(got, &piece);
-        next = play(next, &piece[..n], entries);
+        let mut piece = [0u8; 65536];
+        let n = input.read(&mut piece)?;
+        next = play(rt, next, &piece[..n], entries)?;
         turns -= 1;
     }
-    next
+    Ok(next)
 }
 
-fn main() {
+fn main(rt: HostRuntime) -> Result<()> {
     let mut entries = [0u32; ENTRIES];
     let fresh = Played {
         session: Session::fresh(),
         reader: Reader::new(),
         more: true,
     };
-    let played = play_all(fresh, &mut entries);
+    let played = play_all(&rt, fresh, &mut entries)?;
     let session = played.session;
     let reader = played.reader;
     // the last line may lack its line feed
-    answer::answered(session, reader, &mut entries);
+    answer::answered(&rt, session, reader, &mut entries)?;
+    Ok(())
 }

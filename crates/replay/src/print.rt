@@ -5,10 +5,10 @@ ghost use Rattle.io.specs.Counts.{IsPrefixLen};
 use book_search::NearestAnswer;
 use causes::Cause;
 use cie::{Chromaticity, Colour, Verdict};
-use libc::STDOUT_FILENO;
 use looks::Seen;
 use rules::Difference;
 use session::{Answer, ReportAnswer};
+use std::io::Result;
 use tallies::Tallies;
 use trials::TrialAnswer;
 
@@ -201,13 +201,13 @@ pub fn put_end(out: &mut [u8], at: usize) -> usize
     text::put(out, at, b"\n")
 }
 
-pub fn print(answer: Answer) {
+pub fn print(rt: &impl Print, answer: Answer) -> Result<()> {
     let mut out = [0u8; 272];
     let at = put_answer(&mut out, answer);
     let n = put_end(&mut out, at);
-    io::write_all(STDOUT_FILENO, &out[..n]);
+    rt.write_all(&out[..n])
 }
 
-pub fn print_unreadable() {
-    io::write_all(STDOUT_FILENO, b"unreadable\n");
+pub fn print_unreadable(rt: &impl Print) -> Result<()> {
+    rt.write_all(b"unreadable\n")
 }
