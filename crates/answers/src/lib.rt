@@ -96,6 +96,7 @@ fn trial_words(kind: u32, t: TrialAnswer) -> [u32; 32]
 }
 
 // The words of a report's answer: the tallies of table 1, of table 2, and so on.
+#[tactic(auto, unfolding(crate::specs::Answers::answer_record))]
 fn report_words(report: ReportAnswer) -> [u32; 32]
     ensures { result ≡ answer_record (outcome_of (Counted report)) }
 {
@@ -165,6 +166,7 @@ fn nearest_words(a: NearestAnswer) -> [u32; 32]
     words
 }
 
+#[tactic(auto, unfolding(crate::specs::Answers::answer_record))]
 fn seen_words(answer: Seen) -> [u32; 32]
     ensures { result ≡ answer_record (seen (seen_answer answer)) }
 {
@@ -175,6 +177,7 @@ fn seen_words(answer: Seen) -> [u32; 32]
     }
 }
 
+#[tactic(auto, unfolding(crate::specs::Answers::answer_record))]
 fn words_of(answer: Answer) -> [u32; 32]
     ensures { result ≡ answer_record (outcome_of answer) }
 {
