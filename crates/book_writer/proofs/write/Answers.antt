@@ -55,7 +55,8 @@ returns-then-buffer-total c =
     let a = c.args in
     let first =
     short_buffer a.spacing a.numbers.now a.spectra.now (length a.buffer.now) (sym c.if-is_unknown.ensures) c.rows_at-rows.ensures.0
-    (sym c.if-not-fills.ensures) c.if-n-gt-MOST_SHADES.false (sym c.if-not-is_rising.ensures) (sym c.if-over_bright.ensures) c.total-total.ensures c.if-buffer-total.true in
+    (sym c.if-not-fills.ensures) c.if-n-gt-MOST_SHADES.false (sym c.if-not-is_rising.ensures) (sym c.if-over_bright.ensures)
+    c.total-total.ensures c.if-buffer-total.true in
     let p = write_refused a.spacing a.numbers.now a.spectra.now a.buffer.now ShortBuffer first in
     record { result_value = p.0; buffer_after = p.1 }
 
@@ -65,8 +66,9 @@ returns c =
     let filled = eqb-true (length a.spectra.now) (c.rows_at-rows.result * length a.numbers.now) (sym c.if-not-fills.ensures) in
     let clear =
     writes a.spacing a.numbers.now a.spectra.now (length a.buffer.now) (sym c.if-is_unknown.ensures) c.rows_at-rows.ensures.0
-    (sym c.if-not-fills.ensures) c.if-n-gt-MOST_SHADES.false (sym c.if-not-is_rising.ensures) (sym c.if-over_bright.ensures) c.total-total.ensures c.if-buffer-total.false in
+    (sym c.if-not-fills.ensures) c.if-n-gt-MOST_SHADES.false (sym c.if-not-is_rising.ensures) (sym c.if-over_bright.ensures)
+    c.total-total.ensures c.if-buffer-total.false in
     let p =
-    write_accepted a.spacing a.numbers.now a.spectra.now a.buffer.now clear c.rows_at-rows.ensures.0 filled c.total-total.ensures c.if-buffer-total.false
-    c.put_book.ensures in
+    write_accepted a.spacing a.numbers.now a.spectra.now a.buffer.now clear c.rows_at-rows.ensures.0 filled c.total-total.ensures
+    c.if-buffer-total.false c.put_book.ensures in
     record { result_value = p.0; buffer_after = p.1 }
