@@ -13,7 +13,8 @@ loop-left-preserved c =
       omega arith,
       body_less rows l.offset (l.left - 1) body (omega arith) l.invariant.2,
       omega arith,
-      entries_turn rows l.buffer l.at l.offset (l.left - 1) (omega arith) (omega arith) c.read16-number.ensures c.put_entry.ensures body ∙ l.invariant.4,
+      entries_turn rows l.buffer l.at l.offset (l.left - 1) (omega arith) (omega arith) c.read16-number.ensures
+          c.put_entry.ensures body ∙ l.invariant.4,
     )
 
 pub returns : goal.returns
