@@ -30,7 +30,8 @@ pub sum_limit : (limit : ℕ) (readings : List ℕ) → any_above limit readings
 unfolding any_above sum_of
 sum_limit limit [] h = omega arith
 sum_limit limit (r ∷ rs) h =
-    omega (arith, ltb-false limit r (or_left (ltb limit r) (any_above limit rs) h), sum_limit limit rs (or_right (ltb limit r) (any_above limit rs) h))
+    let first = ltb-false limit r (or_left (ltb limit r) (any_above limit rs) h) in
+    omega (arith, first, sum_limit limit rs (or_right (ltb limit r) (any_above limit rs) h))
 
 pub pooled_limit : (limit : ℕ) (readings : List ℕ) → 0 < length readings → any_above limit readings ≡ false → pooled_reading readings ≤ limit
 pooled_limit limit readings some h = pooled_most readings limit some (sum_limit limit readings h)

@@ -61,7 +61,8 @@ pub length_row : (rows n row : ℕ) (readings : List ℕ) → length (at_row (sp
 length_row rows n row readings = length-map (spots_of rows n readings) (λ (spot : List ℕ). get_or spot row 0) ∙ length_spots rows n readings
 
 -- what no reading is above, no reading of a row is
-every_limit : (limit rows : ℕ) (readings : List ℕ) → any_above limit readings ≡ false → (n at : ℕ) → any_above limit (every_from rows at n readings) ≡ false
+every_limit : (limit rows : ℕ) (readings : List ℕ) → any_above limit readings ≡ false
+    → (n at : ℕ) → any_above limit (every_from rows at n readings) ≡ false
 unfolding any_above every_from
 every_limit limit rows readings h zero at = refl
 every_limit limit rows readings h (suc n) at =

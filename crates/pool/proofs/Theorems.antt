@@ -33,7 +33,8 @@ module _ (spacing count : ℕ) (readings others : List ℕ) (n : length readings
       ∙ above_order frame_limit d
       ∙ ap (any_above frame_limit) (joined (rows_at spacing) count others (sym n ∙ h))
 
-  same_spectrum : pooled_spectrum (rows_at spacing) (spots_at spacing count readings) ≡ pooled_spectrum (rows_at spacing) (spots_at spacing count others)
+  same_spectrum : pooled_spectrum (rows_at spacing) (spots_at spacing count readings)
+      ≡ pooled_spectrum (rows_at spacing) (spots_at spacing count others)
   same_spectrum =
       spectrum_order
       (λ row. length_row (rows_at spacing) count row readings ∙ sym (length_row (rows_at spacing) count row others)) d 0 (rows_at spacing)

@@ -7,7 +7,8 @@ use Rattle.cie.specs.Spacing.{rows_at}
 use Rattle.pool.specs.Spots.{spots_of, at_row}
 use Rattle.pool.specs.Pooling.{pooled, spots_at, places_after_pool}
 
--- "the spots one after another in a lent slice": joined, the spots that a slice is read as are the slice; and spots that are joined are read as these
+-- "the spots one after another in a lent slice": joined, the spots that a slice is read as are the slice; and spots that are joined are read as
+-- these
 pub record OneAfterAnother : Type 0 where
   pub joined : (rows count : ℕ) (readings : List ℕ) → length readings ≡ rows * count → flatten (spots_of rows count readings) ≡ readings
   pub taken_apart : (rows : ℕ) (spots : List (List ℕ)) → ((i : ℕ) → i < length spots → length (get_or spots i []) ≡ rows)
