@@ -34,7 +34,8 @@ pub line_put : {d e f g h : List ℕ} {at r s t q l : ℕ} {a b u v : ℤ} (numb
     → Put f s (spaced (signed u) ++ spaced (signed v)) g t → Put g t line_end h q → Put d at (line_of number c) h q
 unfolding line_of
 line_put {l = l} {a = a} {b = b} {u = u} {v = v} number c el ea eb eu ev p₁ p₂ p₃ p₄ =
-    let pieces = regroup (decimal number ++ spaced (decimal l)) (spaced (signed a)) (spaced (signed b)) (spaced (signed u)) (spaced (signed v)) line_end in
+    let pieces = regroup (decimal number ++ spaced (decimal l)) (spaced (signed a)) (spaced (signed b)) (spaced (signed u)) (spaced (signed v))
+    line_end in
     rw (el, ea, eb, eu, ev) at (same pieces (then (then (then p₁ p₂) p₃) p₄))
 
 pub line_same : {m n : ℕ} {c k : Colour} → m ≡ n → c ≡ k → line_of m c ≡ line_of n k
@@ -76,6 +77,7 @@ module _ (s : List ℕ) {n : ℕ} (told : n ≡ rows_at (listed_spacing s)) wher
   unfolding listing_of
   listing_refused h p = rw (ap (λ (k : ℕ). is_book k s) (sym told) ∙ h) p
 
-  pub listing_whole : {d e : List ℕ} {at r : ℕ} → is_book n s ≡ true → Put d at (header ++ shade_lines (listed_spacing s) s) e r → Put d at (listing_of s) e r
+  pub listing_whole : {d e : List ℕ} {at r : ℕ} → is_book n s ≡ true → Put d at (header ++ shade_lines (listed_spacing s) s) e r
+      → Put d at (listing_of s) e r
   unfolding listing_of
   listing_whole h p = rw (ap (λ (k : ℕ). is_book k s) (sym told) ∙ h) p
