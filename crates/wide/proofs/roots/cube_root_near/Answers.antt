@@ -6,7 +6,9 @@ use Rattle.wide.proofs.Search.{last_shown, last_cube}
 use Rattle.wide.proofs.roots.cube_root_near.Goals as goal
 
 shown : (k n d p : ℕ) {aim : ℕ} {b : Bool} → 0 < d → aim ≡ k * k * k * n → b ≡ is_last (cube_below d aim) p → b ≡ true → p ≡ cube_root k n d
-shown k n d p h e f g = last_cube k n d p h (last_shown (cube_below d (k * k * k * n)) p (ap (λ (x : ℕ). is_last (cube_below d x) p) (sym e) ∙ sym f ∙ g))
+shown k n d p h e f g =
+    last_cube k n d p h
+    (last_shown (cube_below d (k * k * k * n)) p (ap (λ (x : ℕ). is_last (cube_below d x) p) (sym e) ∙ sym f ∙ g))
 
 pub returns-then-is_cube_root : goal.returns-then-is_cube_root
 returns-then-is_cube_root c =
