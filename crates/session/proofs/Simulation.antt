@@ -37,7 +37,8 @@ both (Because c) f a g b h k = h c
 abbrev Same : Ledger → Call → Type 0
 Same l c = served (session_of l) c ≡ reply_of (entered l c)
 
-setting : (readings : List ℕ) (t : Held Tables) (s : Held (List ℕ)) (o : Held Amount) (n : List VerdictCounts) → Same (ledger_of t s o n) (set_standard readings)
+setting : (readings : List ℕ) (t : Held Tables) (s : Held (List ℕ)) (o : Held Amount) (n : List VerdictCounts) →
+    Same (ledger_of t s o n) (set_standard readings)
 setting readings none s o n = unfold first_of unless in refl
 setting readings (held t) s o n = both _ _ _ _ _ (λ c. refl) (ap (standard_by (session_of (ledger_of (held t) s o n))) (colour_same t readings))
 

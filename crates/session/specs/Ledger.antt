@@ -76,7 +76,8 @@ standard_at l (held t) readings =
 
 -- "A tolerance enters its space and amount."
 abbrev pub tolerance_at : Ledger → Amount → Entry
-tolerance_at l a = record { ledger = record { conditions = l.conditions; standard = l.standard; tolerance = held a; counts = l.counts }; outcome = accepted }
+tolerance_at l a =
+    record { ledger = record { conditions = l.conditions; standard = l.standard; tolerance = held a; counts = l.counts }; outcome = accepted }
 
 -- "the length .. of the spacing in force where a call names none": the rows of the tables that the ledger has
 abbrev pub rows_in_force : Held Tables → ℕ
@@ -157,8 +158,10 @@ abbrev pub entered : Ledger → Call → Entry
 entered l (open_tables t) = unless (first_of (table_checks t)) (refused_at l) (opened_at l t)
 entered l (open_light light spacing) = unless (first_of (light_checks light spacing)) (refused_at l) (opened_at l (light_tables light spacing))
 entered l (set_standard readings) =
-    unless (first_of (standard_checks (is_held l.conditions) (rows_in_force l.conditions) readings)) (refused_at l) (standard_at l l.conditions readings)
-entered l (set_tolerance space amount) = unless (first_of (tolerance_checks amount)) (refused_at l) (tolerance_at l (record { space = space; units = amount }))
+    unless (first_of (standard_checks (is_held l.conditions) (rows_in_force l.conditions) readings)) (refused_at l)
+    (standard_at l l.conditions readings)
+entered l (set_tolerance space amount) =
+    unless (first_of (tolerance_checks amount)) (refused_at l) (tolerance_at l (record { space = space; units = amount }))
 entered l (trial table readings) = counted_at l table (tried_at l table readings)
 entered l report = record { ledger = l; outcome = counted (record { sets = l.counts }) }
 entered l (look k) = seen_at l (looked_at l k)

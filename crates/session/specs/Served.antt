@@ -104,7 +104,8 @@ seen_by s answer = record { session = s; outcome = seen answer }
 
 abbrev pub served : Session → Call → Reply
 served s (open_tables t) = unless (first_of (table_checks t)) (refused_by s) (opened_by s (conditions_of t))
-served s (open_light light spacing) = unless (first_of (light_checks light spacing)) (refused_by s) (opened_by s (conditions_of (light_tables light spacing)))
+served s (open_light light spacing) =
+    unless (first_of (light_checks light spacing)) (refused_by s) (opened_by s (conditions_of (light_tables light spacing)))
 served s (set_standard readings) =
     unless (first_of (standard_checks s.opened s.conditions.rows readings)) (refused_by s) (standard_by s (colour_under s.conditions readings))
 served s (set_tolerance space amount) = unless (first_of (tolerance_checks amount)) (refused_by s) (tolerance_by s (tolerance_of space amount))

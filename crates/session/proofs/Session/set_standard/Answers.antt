@@ -23,9 +23,11 @@ returns-in_default c =
 
 pub colour_of-requires : goal.colour_of-requires
 colour_of-requires c =
-    measured_ready c.args.self.conditions c.requires.standing.sound frame_limit (omega arith) c.args.readings.now c.measure-measured.ensures c.in-Whole.is
+    measured_ready c.args.self.conditions c.requires.standing.sound frame_limit (omega arith) c.args.readings.now c.measure-measured.ensures
+    c.in-Whole.is
 
 pub returns : goal.returns
 returns c =
-    let told = standard_whole c.args.self c.args.readings.now (ap not c.if-not-self.false) c.measure-measured.ensures c.in-Whole.is c.colour_of.ensures in
-    meets _ _ _ c.requires (c.with_standard.ensures ∙ sym told)
+    meets _ _ _ c.requires
+    (c.with_standard.ensures
+    ∙ sym (standard_whole c.args.self c.args.readings.now (ap not c.if-not-self.false) c.measure-measured.ensures c.in-Whole.is c.colour_of.ensures))
