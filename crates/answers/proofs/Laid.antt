@@ -98,14 +98,17 @@ module _ {answer : Answer} {r : List ℕ} where
 
 -- and of a look's
 module _ {answer : Seen} {r : List ℕ} where
-  pub laid_previewed : {t : TrialAnswer} → answer ≡ Previewed t → r ≡ padded (5 ∷ trial_words (trial_outcome t)) → r ≡ answer_record (seen (seen_answer answer))
+  pub laid_previewed : {t : TrialAnswer} → answer ≡ Previewed t → r ≡ padded (5 ∷ trial_words (trial_outcome t))
+      → r ≡ answer_record (seen (seen_answer answer))
   unfolding answer_record
   laid_previewed e q = rw e q
 
-  pub laid_nearest : {a : NearestAnswer} → answer ≡ Nearest a → r ≡ padded (6 ∷ nearest_words (nearest_outcome a)) → r ≡ answer_record (seen (seen_answer answer))
+  pub laid_nearest : {a : NearestAnswer} → answer ≡ Nearest a → r ≡ padded (6 ∷ nearest_words (nearest_outcome a))
+      → r ≡ answer_record (seen (seen_answer answer))
   unfolding answer_record
   laid_nearest e q = rw e q
 
-  pub laid_unseen : {cause : Cause} → answer ≡ looks.Refused cause → r ≡ refused_record (cause_number cause) → r ≡ answer_record (seen (seen_answer answer))
+  pub laid_unseen : {cause : Cause} → answer ≡ looks.Refused cause → r ≡ refused_record (cause_number cause)
+      → r ≡ answer_record (seen (seen_answer answer))
   unfolding answer_record
   laid_unseen e q = rw e q
