@@ -73,10 +73,20 @@ module _ {s : Session} {r : Served} where
     unfolding call_of_kind
     by_nearest e m = of_kind 8 e refl m
 
-    pub by_report : (kind ≡ 1 → ⊥) → (kind ≡ 2 → ⊥) → (kind ≡ 3 → ⊥) → (kind ≡ 4 → ⊥) → (kind ≡ 5 → ⊥) → (kind ≡ 6 → ⊥) → (kind ≡ 7 → ⊥) → (kind ≡ 8 → ⊥)
+    pub by_report : (kind ≡ 1 → ⊥) → (kind ≡ 2 → ⊥) → (kind ≡ 3 → ⊥) → (kind ≡ 4 → ⊥) → (kind ≡ 5 → ⊥) → (kind ≡ 6 → ⊥)
+        → (kind ≡ 7 → ⊥) → (kind ≡ 8 → ⊥)
         → Meets s report r → Meets s (call_of words slices) r
     unfolding call_of_kind
     by_report n₁ n₂ n₃ n₄ n₅ n₆ n₇ n₈ m =
         of_kind kind refl
-        (simp (ne_eqb kind 1 n₁, ne_eqb kind 2 n₂, ne_eqb kind 3 n₃, ne_eqb kind 4 n₄, ne_eqb kind 5 n₅, ne_eqb kind 6 n₆, ne_eqb kind 7 n₇, ne_eqb kind 8 n₈))
+        (simp (
+          ne_eqb kind 1 n₁,
+          ne_eqb kind 2 n₂,
+          ne_eqb kind 3 n₃,
+          ne_eqb kind 4 n₄,
+          ne_eqb kind 5 n₅,
+          ne_eqb kind 6 n₆,
+          ne_eqb kind 7 n₇,
+          ne_eqb kind 8 n₈,
+        ))
         m

@@ -23,7 +23,8 @@ module _ (start count room : ℕ) where
       record {
         order = omega arith;
         within = h;
-        between = λ slice e. ap (λ (n : ℕ). take n (drop start slice)) (add-sub_cancel_left start count) ∙ part_inside slice start count (omega arith);
+        between = λ slice e.
+            ap (λ (n : ℕ). take n (drop start slice)) (add-sub_cancel_left start count) ∙ part_inside slice start count (omega arith);
       }
 
   outside : room < start + count → Lies start count room 0 0

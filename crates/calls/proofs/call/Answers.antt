@@ -15,7 +15,8 @@ returns-in-1 c =
 pub returns-in-2 : goal.returns-in-2
 returns-in-2 c =
     let a = c.args in
-    by_light (read a.words.now a.tables.now a.spectra.now a.books.now c.word.ensures) c.in-2.is c.word-in-2.ensures c.word-in-2-2.ensures c.open_light.ensures
+    by_light (read a.words.now a.tables.now a.spectra.now a.books.now c.word.ensures) c.in-2.is c.word-in-2.ensures
+    c.word-in-2-2.ensures c.open_light.ensures
 
 pub returns-in-3 : goal.returns-in-3
 returns-in-3 c =
@@ -35,12 +36,14 @@ returns-in-5 c =
 pub returns-in-6 : goal.returns-in-6
 returns-in-6 c =
     let a = c.args in
-    by_trial (read a.words.now a.tables.now a.spectra.now a.books.now c.word.ensures) c.in-6.is c.word-in-6.ensures c.spectrum-in-6.ensures c.trial.ensures
+    by_trial (read a.words.now a.tables.now a.spectra.now a.books.now c.word.ensures) c.in-6.is c.word-in-6.ensures
+    c.spectrum-in-6.ensures c.trial.ensures
 
 pub returns-in-7 : goal.returns-in-7
 returns-in-7 c =
     let a = c.args in
-    by_preview (read a.words.now a.tables.now a.spectra.now a.books.now c.word.ensures) c.in-7.is c.word-in-7.ensures c.spectrum-in-7.ensures c.preview.ensures
+    by_preview (read a.words.now a.tables.now a.spectra.now a.books.now c.word.ensures) c.in-7.is c.word-in-7.ensures
+    c.spectrum-in-7.ensures c.preview.ensures
 
 pub returns-in-8 : goal.returns-in-8
 returns-in-8 c =
