@@ -1,4 +1,4 @@
--- The bytes that are passed are zeros. Assumes nothing.
+-- `strike::closing::clear` meets its contract: the bytes that are passed are zeros, and at the end these are all. Assumes nothing.
 use Rattle.std.proofs.Common.{length, take, replicate, ◌-◌, ◌≡◌, ◌≤◌}
 use Rattle.strike.proofs.closing.clear.Given as goal
 

@@ -1,4 +1,4 @@
--- What is moved, then what is still to move, is the same all along. Assumes nothing.
+-- `strike::closing::move_down` meets its contract: what is moved, then what is still to move, is the same all along. Assumes nothing.
 use Rattle.std.proofs.Common.{length, take, drop, ◌++◌, ◌-◌, ◌+◌, ◌≡◌, ◌≤◌}
 use Rattle.strike.proofs.closing.move_down.Given as goal
 
