@@ -128,6 +128,7 @@ fn open_tables(s: Session, words: &[u32], tables: &[u32]) -> Served
 }
 
 // Makes the call of a record.
+#[tactic(auto, unfolding(crate::specs::Records::call_of_kind))]
 pub fn call(s: Session, words: &[u32], tables: &[u32], spectra: &[u16], books: &[u8]) -> Served
     requires { Valid s }
     ensures { Meets s (call_of words.now (slices_of tables.now spectra.now books.now)) result }
