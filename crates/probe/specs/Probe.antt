@@ -27,7 +27,8 @@ after s c = (served s c).session
 
 -- a fresh session, then the light at 5 nm, the standard and a tolerance in CIELAB
 unfoldable pub session_for : ℕ → List ℕ → ℕ → Session
-session_for light standard amount = after (after (after fresh_session (open_light light fine_spacing)) (set_standard standard)) (set_tolerance Cielab amount)
+session_for light standard amount =
+    after (after (after fresh_session (open_light light fine_spacing)) (set_standard standard)) (set_tolerance Cielab amount)
 
 -- the inspection table that a run of trials names
 abbrev pub only_table : ℕ

@@ -6,6 +6,7 @@ use Rattle.probe.proofs.probe_trials.Goals as goal
 
 pub returns : goal.returns
 returns c =
+    let a = c.args in
     c.passed_in.ensures
-    ∙ counted c.args.light c.args.standard.now c.args.trial.now c.args.amount c.args.count c.session_for-ready.ensures.0 c.after_trials-last.ensures.0
+    ∙ counted a.light a.standard.now a.trial.now a.amount a.count c.session_for-ready.ensures.0 c.after_trials-last.ensures.0
     (ap (λ (x : Reply). x.outcome) c.report-report.ensures.reply)
