@@ -17,5 +17,6 @@ raised-requires c =
 pub returns : goal.returns
 returns c =
     let from = table_from _ (sym c.is_table.ensures ∙ c.if-not-is_table.false) in
-    ap (set c.args.self.sets (c.args.table - 1)) (c.raised.ensures ∙ ap (tallied_by c.args.verdict) (at_place no_tallies c.args.self.sets c.args.table from))
-    ∙ set_place (tallied_by c.args.verdict) no_tallies c.args.self.sets c.args.table from
+    let a = c.args in
+    ap (set a.self.sets (a.table - 1)) (c.raised.ensures ∙ ap (tallied_by a.verdict) (at_place no_tallies a.self.sets a.table from))
+    ∙ set_place (tallied_by a.verdict) no_tallies a.self.sets a.table from
