@@ -1,5 +1,5 @@
 // A line's call made, its spots pooled or its shade struck, and the answer printed.
-ghost use Rattle.std.specs.Prelude.{◌≤◌, length, IfOk};
+ghost use Rattle.std.specs.Prelude.{◌≤◌, length};
 ghost use Rattle.cie.specs.Spacing.{most_rows};
 ghost use Rattle.session.specs.Served.{Valid};
 
@@ -10,7 +10,6 @@ use crate::{beside, line, print};
 use cie::spacing::MOST_ROWS;
 use pool::Pooled;
 use session::{Answer, Session};
-use std::io::Result;
 use strike::Struck;
 
 // The number, or the largest of 16 bits.
@@ -39,16 +38,16 @@ fn called(
     record: &[u32],
     entries: &[u32; 34089],
     book: &[u8],
-) -> Result<Session>
+) -> Session
     requires { Valid session }
-    ensures { IfOk result Valid }
+    ensures { Valid result }
 {
     let mut readings = [0u16; STRETCH];
     put_readings(entries, &mut readings);
     let served = calls::call(session, record, entries, &readings, book);
     let answer = served.answer;
-    print::print(rt, answer)?;
-    Ok(served.session)
+    print::print(rt, answer);
+    served.session
 }
 
 // Pools the first entries, into as many places as the spacing has rows, and prints the spectrum.
@@ -59,7 +58,7 @@ fn pooled(
     entries: &[u32],
     spots: &mut [u16],
     places: &mut [u16],
-) -> Result<()>
+)
     requires { (length spots.old ≤ length entries.now) × (length places.old ≤ most_rows) }
 {
     put_readings(entries, spots);
@@ -87,7 +86,7 @@ fn pooled_line(
     entries: &[u32],
     spots: &mut [u16],
     places: &mut [u16],
-) -> Result<()>
+)
     requires { (1297 ≤ length entries.now) × (1297 ≤ length spots.old) × (most_rows ≤ length places.old) }
 {
     let n = counted(record[LENGTH], SPOTS);
@@ -100,7 +99,7 @@ fn pooled_line(
         entries,
         &mut spots[..n],
         &mut places[..rows],
-    )
+    );
 }
 
 // The first entries as bytes.
@@ -125,7 +124,7 @@ fn buffer_of(digits: u32, entries: &[u32], room: &mut [u8]) -> usize
 }
 
 // Strikes a shade of the book that fills a buffer, and prints what is left.
-fn struck(rt: &impl Print, spacing: u32, number: u16, buffer: &mut [u8]) -> Result<()>
+fn struck(rt: &impl Print, spacing: u32, number: u16, buffer: &mut [u8])
     requires { length buffer.old ≤ 34007 }
 {
     match strike::strike(spacing, number, buffer) {
@@ -135,24 +134,19 @@ fn struck(rt: &impl Print, spacing: u32, number: u16, buffer: &mut [u8]) -> Resu
 }
 
 // Answers the line of a strike.
-fn struck_line(rt: &impl Print, line: Line, entries: &[u32]) -> Result<()>
+fn struck_line(rt: &impl Print, line: Line, entries: &[u32])
     requires { 34089 ≤ length entries.now }
 {
     let record = line.record;
     let mut buffer = [0u8; BYTES];
     let n = buffer_of(line.digits, entries, &mut buffer);
-    struck(rt, record[SPACING], short(record[NUMBER]), &mut buffer[..n])
+    struck(rt, record[SPACING], short(record[NUMBER]), &mut buffer[..n]);
 }
 
 // Answers the line of a search.
-fn searched_line(
-    rt: &impl Print,
-    session: Session,
-    line: Line,
-    entries: &[u32; 34089],
-) -> Result<Session>
+fn searched_line(rt: &impl Print, session: Session, line: Line, entries: &[u32; 34089]) -> Session
     requires { Valid session }
-    ensures { IfOk result Valid }
+    ensures { Valid result }
 {
     let mut record = line.record;
     let mut buffer = [0u8; BYTES];
@@ -167,15 +161,15 @@ pub fn answered(
     session: Session,
     reader: Reader,
     entries: &mut [u32; 34089],
-) -> Result<Session>
+) -> Session
     requires { Valid session }
-    ensures { IfOk result Valid }
+    ensures { Valid result }
 {
     let line = reader.ended(entries);
     let stage = line.stage;
     let asked = line.asked;
     match stage {
-        Stage::Start => Ok(session),
+        Stage::Start => session,
         Stage::End => {
             let record = line.record;
             match asked {
@@ -184,18 +178,18 @@ pub fn answered(
                 Asked::Pool => {
                     let mut spots = [0u16; SPOTS];
                     let mut places = [0u16; MOST_ROWS];
-                    pooled_line(rt, record, entries, &mut spots, &mut places)?;
-                    Ok(session)
+                    pooled_line(rt, record, entries, &mut spots, &mut places);
+                    session
                 }
                 Asked::Strike => {
-                    struck_line(rt, line, entries)?;
-                    Ok(session)
+                    struck_line(rt, line, entries);
+                    session
                 }
             }
         }
         _ => {
-            print::print_unreadable(rt)?;
-            Ok(session)
+            print::print_unreadable(rt);
+            session
         }
     }
 }

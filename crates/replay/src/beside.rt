@@ -3,7 +3,6 @@ ghost use Rattle.std.specs.Prelude.{◌+◌, ◌*◌, ◌≤◌, length};
 ghost use Rattle.cie.specs.Spacing.{most_rows};
 
 use crate::{hex, print};
-use std::io::Result;
 
 // Readings, each after a space.
 fn put_fields(out: &mut [u8], at: usize, readings: &[u16]) -> usize
@@ -29,13 +28,13 @@ fn put_spectrum(out: &mut [u8], readings: &[u16]) -> usize
     put_fields(out, counted, readings)
 }
 
-pub fn print_spectrum(rt: &impl Print, readings: &[u16]) -> Result<()>
+pub fn print_spectrum(rt: &impl Print, readings: &[u16])
     requires { length readings.now ≤ most_rows }
 {
     let mut out = [0u8; 911];
     let at = put_spectrum(&mut out, readings);
     let n = print::put_end(&mut out, at);
-    rt.write_all(&out[..n])
+    let _ = rt.write_all(&out[..n]);
 }
 
 // What a strike left, without its line end: the book's length, then the whole buffer.
@@ -49,11 +48,11 @@ fn put_struck(out: &mut [u8], left: u32, buffer: &[u8]) -> usize
     hex::put_bytes(out, spaced, buffer)
 }
 
-pub fn print_struck(rt: &impl Print, left: u32, buffer: &[u8]) -> Result<()>
+pub fn print_struck(rt: &impl Print, left: u32, buffer: &[u8])
     requires { length buffer.now ≤ 34007 }
 {
     let mut out = [0u8; 68033];
     let at = put_struck(&mut out, left, buffer);
     let n = print::put_end(&mut out, at);
-    rt.write_all(&out[..n])
+    let _ = rt.write_all(&out[..n]);
 }

@@ -1,13 +1,12 @@
 // Replays a script: one call, pooling or strike a line on standard input, and for each its answer, a line on standard output.
 #![tactic(auto)]
 
-ghost use Rattle.std.specs.Prelude.{IfOk};
 ghost use Rattle.session.specs.Served.{Valid};
 
 use form::ENTRIES;
 use reader::Reader;
 use session::Session;
-use std::io::{Read, Result};
+use std::io::Read;
 
 mod answer;
 mod beside;
@@ -28,9 +27,9 @@ pub struct Played {
 }
 
 // Plays a piece of the script: each line that ends in it is answered.
-fn play(rt: &impl Print, played: Played, piece: &[u8], entries: &mut [u32; 34089]) -> Result<Played>
+fn play(rt: &impl Print, played: Played, piece: &[u8], entries: &mut [u32; 34089]) -> Played
     requires { Valid played.session }
-    ensures { IfOk result (λ next. Valid next.session) }
+    ensures { Valid result.session }
 {
     let mut session = played.session;
     let mut reader = played.reader;
@@ -42,45 +41,44 @@ fn play(rt: &impl Print, played: Played, piece: &[u8], entries: &mut [u32; 34089
             reader = reader.with_byte(byte, entries);
             continue;
         }
-        session = answer::answered(rt, session, reader, entries)?;
+        session = answer::answered(rt, session, reader, entries);
         reader = Reader::new();
     }
-    Ok(Played {
+    Played {
         session: session,
         reader: reader,
         more: 0 < piece.len(),
-    })
+    }
 }
 
-// Plays the whole script, a piece at a time. A proved loop has to end, and nothing says that a script does: so the loop counts
+// Plays the whole script, a piece at a time; a read that fails ends it. A proved loop has to end, and nothing says that a script does: so the loop counts
 // its turns down, from a number that no run uses up.
-fn play_all(rt: &(impl Input + Print), played: Played, entries: &mut [u32; 34089]) -> Result<Played>
+fn play_all(rt: &(impl Input + Print), played: Played, entries: &mut [u32; 34089]) -> Played
     requires { Valid played.session }
-    ensures { IfOk result (λ next. Valid next.session) }
+    ensures { Valid result.session }
 {
     let mut input = rt.reader();
     let mut next = played;
     let mut turns = u64::MAX;
     while turns > 0 && next.more {
         let mut piece = [0u8; 65536];
-        let n = input.read(&mut piece)?;
-        next = play(rt, next, &piece[..n], entries)?;
+        let n = input.read(&mut piece).unwrap_or(0);
+        next = play(rt, next, &piece[..n], entries);
         turns -= 1;
     }
-    Ok(next)
+    next
 }
 
-fn main(rt: HostRuntime) -> Result<()> {
+fn main(rt: HostRuntime) {
     let mut entries = [0u32; ENTRIES];
     let fresh = Played {
         session: Session::fresh(),
         reader: Reader::new(),
         more: true,
     };
-    let played = play_all(&rt, fresh, &mut entries)?;
+    let played = play_all(&rt, fresh, &mut entries);
     let session = played.session;
     let reader = played.reader;
     // the last line may lack its line feed
-    answer::answered(&rt, session, reader, &mut entries)?;
-    Ok(())
+    answer::answered(&rt, session, reader, &mut entries);
 }

@@ -8,7 +8,6 @@ use cie::{Chromaticity, Colour, Verdict};
 use looks::Seen;
 use rules::Difference;
 use session::{Answer, ReportAnswer};
-use std::io::Result;
 use tallies::Tallies;
 use trials::TrialAnswer;
 
@@ -201,13 +200,14 @@ pub fn put_end(out: &mut [u8], at: usize) -> usize
     text::put(out, at, b"\n")
 }
 
-pub fn print(rt: &impl Print, answer: Answer) -> Result<()> {
+// Prints a line; as everywhere in this program, a write that fails is passed over.
+pub fn print(rt: &impl Print, answer: Answer) {
     let mut out = [0u8; 272];
     let at = put_answer(&mut out, answer);
     let n = put_end(&mut out, at);
-    rt.write_all(&out[..n])
+    let _ = rt.write_all(&out[..n]);
 }
 
-pub fn print_unreadable(rt: &impl Print) -> Result<()> {
-    rt.write_all(b"unreadable\n")
+pub fn print_unreadable(rt: &impl Print) {
+    let _ = rt.write_all(b"unreadable\n");
 }
