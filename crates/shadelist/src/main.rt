@@ -2,30 +2,30 @@
 // longer input is no book.
 #![tactic(auto)]
 
-ghost use Rattle.std.specs.Prelude.{◌≤◌, length, IfOk};
+ghost use Rattle.std.specs.Prelude.{◌≤◌, length};
 
-use std::io;
 use std::io::Read;
 
-// Reads until the buffer is full or the input ends, and returns how many bytes it put at the start of the buffer.
-fn read_full(input: &mut impl Read, buffer: &mut [u8]) -> io::Result<usize>
-    ensures { IfOk result (λ n. n ≤ length buffer.new) }
+// Reads until the buffer is full, the input ends or a read fails, and returns how many bytes it put at the start of the buffer.
+fn read_full(input: &mut impl Read, buffer: &mut [u8]) -> usize
+    ensures { result ≤ length buffer.new }
 {
     let mut done = 0;
     while done < buffer.len() {
-        let n = input.read(&mut buffer[done..])?;
+        let n = input.read(&mut buffer[done..]).unwrap_or(0);
         if n == 0 {
             break;
         }
         done += n;
     }
-    Ok(done)
+    done
 }
 
-fn main(rt: HostRuntime) -> io::Result<()> {
+fn main(rt: HostRuntime) {
     let mut input = [0u8; 34007];
-    let got = read_full(&mut rt.reader(), &mut input)?;
+    let got = read_full(&mut rt.reader(), &mut input);
     let mut text = [0u8; 14016];
     let count = listing::list(&input[..got], &mut text);
-    rt.write_all(&text[..count])
+    // a write that fails is passed over
+    let _ = rt.write_all(&text[..count]);
 }
