@@ -7,6 +7,7 @@ use Rattle.conditions.proofs.prepare_observed.Goals as goal
 
 pub returns : goal.returns
 returns c =
+    let a = c.args in
     prepares_as
-    (ap prepared_of (lent c.args.spacing c.args.illuminant c.rows_at-rows.ensures.0 c.observer_x-x.ensures c.observer_y-y.ensures c.observer_z-z.ensures))
+    (ap prepared_of (lent a.spacing a.illuminant c.rows_at-rows.ensures.0 c.observer_x-x.ensures c.observer_y-y.ensures c.observer_z-z.ensures))
     c.prepare.ensures
