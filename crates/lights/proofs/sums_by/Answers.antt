@@ -49,10 +49,9 @@ with_row-sums-requires c =
 
 pub loop-i-preserved : goal.loop-i-preserved
 loop-i-preserved c =
-    let p = c.requires in (
-      omega arith,
-      lit_more c.args.spacing p.0 p.1 p.2 c.loop-i.invariant.1 (omega arith) (row_is c.args.spacing c.loop-i.i c.stride_at-stride.ensures) c.with_row-sums.ensures,
-    )
+    let p = c.requires in
+    let e = row_is c.args.spacing c.loop-i.i c.stride_at-stride.ensures in
+    (omega arith, lit_more c.args.spacing p.0 p.1 p.2 c.loop-i.invariant.1 (omega arith) e c.with_row-sums.ensures)
 
 pub returns : goal.returns
 returns c = lit_all c.args.spacing c.requires.0 c.requires.1 c.requires.2 c.loop-i.invariant.1 (omega arith)

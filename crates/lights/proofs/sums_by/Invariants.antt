@@ -6,8 +6,8 @@ use Rattle.lights.proofs.sums_by.Given as goal
 
 abbrev pub invariant-loop-i : goal.invariant-loop-i
 invariant-loop-i l =
-    (l.i ≤ length l.readings)
-    × Begun l.readings (weights_at l.fn.spacing l.illuminant l.x) (weights_at l.fn.spacing l.illuminant l.y) (weights_at l.fn.spacing l.illuminant l.z) l.sums l.i
+    let at = weights_at l.fn.spacing l.illuminant in
+    (l.i ≤ length l.readings) × Begun l.readings (at l.x) (at l.y) (at l.z) l.sums l.i
 
 abbrev pub decreases-loop-i : goal.decreases-loop-i
 decreases-loop-i l = length l.readings - l.i

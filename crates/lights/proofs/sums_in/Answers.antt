@@ -17,5 +17,6 @@ sums_by-requires c = (
 pub returns : goal.returns
 unfolding observer_x observer_y observer_z
 returns c =
+    let a = c.args in
     c.sums_by.ensures
-    ∙ ap (λ (l : List ℕ). sums_of (tables_at c.args.spacing l observer_x observer_y observer_z) c.args.readings.now) c.illuminant_of-illuminant.ensures
+    ∙ ap (λ (l : List ℕ). sums_of (tables_at a.spacing l observer_x observer_y observer_z) a.readings.now) c.illuminant_of-illuminant.ensures
