@@ -1,4 +1,4 @@
--- Every ledger that calls lead to has tables that pass an opening's checks and a standard that is not over_bright: each was entered behind
+-- Every ledger that calls lead to has tables that pass an opening's checks and a standard that is not over-bright: each was entered behind
 -- its checks, and the built-in lights pass them. Assumes nothing.
 use mathlib.Core.Path.{◌≡◌}
 use mathlib.Core.Bool.{false}

@@ -21,6 +21,6 @@ pub record BrightStopped : Type 0 where
   pub accepted : {t : Tables} {readings : List ℕ} {colour : Colour} → AcceptedSpectrum t readings colour → any_above frame_limit readings ≡ false
   -- "such a shade can't be set as a standard": in every session, from whatever book it was read
   pub no_standard : (s : Session) (readings : List ℕ) → any_above frame_limit readings ≡ true → RefusedFrom s (served s (set_standard readings))
-  -- and as over_bright, where conditions are opened and it has their rows
+  -- and as over-bright, where conditions are opened and it has their rows
   pub over_bright : (s : Session) (readings : List ℕ) → s.opened ≡ true → length readings ≡ s.conditions.rows →
       any_above frame_limit readings ≡ true → served s (set_standard readings) ≡ refused_by s OverBright

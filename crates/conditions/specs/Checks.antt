@@ -38,6 +38,6 @@ table_checks t =
 abbrev pub light_checks : ℕ → ℕ → List Check
 light_checks light spacing = check (unknown_spacing spacing) UnknownSpacing ∷ check (unknown_light light) NoSuchLight ∷ []
 
--- 1, short table, by the rows of the spacing; 2, over_bright: "a reading above" the limit that the call goes by
+-- 1, short table, by the rows of the spacing; 2, over-bright: "a reading above" the limit that the call goes by
 abbrev pub spectrum_checks : ℕ → ℕ → List ℕ → List Check
 spectrum_checks limit rows readings = check (short rows readings) ShortTable ∷ check (any_above limit readings) OverBright ∷ []

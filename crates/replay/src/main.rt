@@ -51,8 +51,8 @@ fn play(rt: &impl Print, played: Played, piece: &[u8], entries: &mut [u32; 34089
     }
 }
 
-// Plays the whole script, a piece at a time; a read that fails ends it. A proved loop has to end, and nothing says that a script does: so the loop counts
-// its turns down, from a number that no run uses up.
+// Plays the whole script, a piece at a time; a read that fails ends it. A proved loop has to end, and nothing says that a script
+// does: so the loop counts its turns down, from a number that no run uses up.
 fn play_all(rt: &(impl Input + Print), played: Played, entries: &mut [u32; 34089]) -> Played
     requires { Valid played.session }
     ensures { Valid result.session }
