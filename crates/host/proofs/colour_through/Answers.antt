@@ -17,4 +17,5 @@ coordinates_in-requires c =
 pub returns : goal.returns
 returns c =
     let a = c.args in
-    fair a.light a.spacing a.spectrum.now c.requires.1 c.read_words.ensures (sym c.over_bright.ensures ∙ c.if-over_bright.false) c.coordinates_in.ensures
+    let dim = sym c.over_bright.ensures ∙ c.if-over_bright.false in
+    fair a.light a.spacing a.spectrum.now c.requires.1 c.read_words.ensures dim c.coordinates_in.ensures
