@@ -1,4 +1,4 @@
-// The call for a host program in C: the colour of a spectrum under a built-in light.
+// The call for a host program: the colour of a spectrum under a built-in light. The crate `host_c` gives it to C.
 #![tactic(auto)]
 
 ghost use Rattle.std.specs.Prelude.{◌≡◌, false, ◌++◌, ◌+◌, ◌^◌, ◌≤◌, ◌<◌, length};
@@ -70,8 +70,7 @@ fn put_answer(out: &mut [u8], colour: Coordinates)
 }
 
 // Answers 0, with the colour in the first 20 bytes of the buffer, or the number of a cause, with the buffer as it was.
-#[unsafe(no_mangle)]
-pub extern "C" fn shade_colour(light: u32, spectrum: &[u8], out: &mut [u8]) -> u32
+pub fn shade_colour(light: u32, spectrum: &[u8], out: &mut [u8]) -> u32
     ensures value { result ≡ answered light spectrum.now (length out.old) }
     ensures out_after { out.new ≡ buffer_after light spectrum.now out.old }
 {

@@ -1,4 +1,5 @@
-// The calls of a book, the pooling of spots, the run of a list of calls and a run of trials, for tests and benchmarks in C: no part of the product.
+// The calls of a book, the pooling of spots, the run of a list of calls and a run of trials, for tests and benchmarks: no part of the product. The crate
+// `probe_c` gives them to C.
 #![tactic(auto)]
 
 ghost use Rattle.std.specs.Prelude.{◌≡◌, length};
@@ -24,13 +25,7 @@ use strike::Struck;
 const REFUSED: u64 = 4294967296;
 
 // Writes a book at a spacing, and answers its length, or 2^32 and the cause's number.
-#[unsafe(no_mangle)]
-pub extern "C" fn probe_write(
-    spacing: u32,
-    numbers: &[u16],
-    spectra: &[u16],
-    buffer: &mut [u8],
-) -> u64
+pub fn probe_write(spacing: u32, numbers: &[u16], spectra: &[u16], buffer: &mut [u8]) -> u64
     ensures value { result ≡ count_code (written spacing numbers.now spectra.now (length buffer.old)) }
     ensures buffer_after { buffer.new ≡ buffer_after_write spacing numbers.now spectra.now buffer.old }
 {
@@ -41,8 +36,7 @@ pub extern "C" fn probe_write(
 }
 
 // Reads a shade of a book of a spacing, and answers 0, or the cause's number.
-#[unsafe(no_mangle)]
-pub extern "C" fn probe_read(spacing: u32, book: &[u8], number: u16, places: &mut [u16]) -> u32
+pub fn probe_read(spacing: u32, book: &[u8], number: u16, places: &mut [u16]) -> u32
     ensures value { result ≡ cause_code (found spacing book.now number (length places.old)) }
     ensures places_after { places.new ≡ places_after_read spacing book.now number places.old }
 {
@@ -53,8 +47,7 @@ pub extern "C" fn probe_read(spacing: u32, book: &[u8], number: u16, places: &mu
 }
 
 // Strikes a shade of the book of a spacing that fills the buffer, and answers the length of the book that is left, or 2^32 and the cause's number.
-#[unsafe(no_mangle)]
-pub extern "C" fn probe_strike(spacing: u32, number: u16, buffer: &mut [u8]) -> u64
+pub fn probe_strike(spacing: u32, number: u16, buffer: &mut [u8]) -> u64
     ensures value { result ≡ count_code (struck spacing number buffer.old) }
     ensures buffer_after { buffer.new ≡ buffer_after_strike spacing number buffer.old }
 {
@@ -65,8 +58,7 @@ pub extern "C" fn probe_strike(spacing: u32, number: u16, buffer: &mut [u8]) -> 
 }
 
 // Pools spots at a spacing, and answers 0, or the cause's number.
-#[unsafe(no_mangle)]
-pub extern "C" fn probe_pool(spacing: u32, count: u32, spots: &[u16], places: &mut [u16]) -> u32
+pub fn probe_pool(spacing: u32, count: u32, spots: &[u16], places: &mut [u16]) -> u32
     ensures value { result ≡ cause_code (pooled spacing count spots.now (length places.old)) }
     ensures places_after { places.new ≡ places_after_pool spacing count spots.now places.old }
 {
@@ -77,8 +69,7 @@ pub extern "C" fn probe_pool(spacing: u32, count: u32, spots: &[u16], places: &m
 }
 
 // Runs a list of calls, and answers how many were answered, or 2^32 and the cause's number.
-#[unsafe(no_mangle)]
-pub extern "C" fn probe_run(
+pub fn probe_run(
     records: &[u32],
     tables: &[u32],
     spectra: &[u16],
@@ -137,14 +128,7 @@ fn passed_in(answer: Answer) -> u32
 }
 
 // How many of some trials of one spectrum pass, against a standard under a light at 5 nm, at a tolerance in CIELAB.
-#[unsafe(no_mangle)]
-pub extern "C" fn probe_trials(
-    light: u32,
-    standard: &[u16],
-    trial: &[u16],
-    amount: u32,
-    count: u32,
-) -> u32
+pub fn probe_trials(light: u32, standard: &[u16], trial: &[u16], amount: u32, count: u32) -> u32
     ensures { result ≡ pass_count light standard.now trial.now amount count }
 {
     let ready = session_for(light, standard, amount);
