@@ -1,31 +1,23 @@
 -- The words of an answer: each part that the code makes is the definition's, and there are thirty-two of them. Assumes nothing.
-use mathlib.Core.Path.{◌≡◌, refl, ap, ◌∙◌}
-use mathlib.Core.List.{List, [], ◌∷◌, ◌++◌}
-use Prim.Native.Nat.{ℕ}
+use mathlib.Core.Path.{◌≡◌, refl, ap, sym, ◌∙◌}
+use mathlib.Core.List.{List, [], ◌∷◌, ◌++◌, map}
+use Prim.Native.Nat.{ℕ, suc, ◌+◌, ◌-◌, ◌*◌, ◌≤◌, ◌<◌}
 use native.Mathlib.Omega.{arith}
-use lib.ListN.{length, replicate, length-append, length-replicate}
-use lib.Seq.{length-take-le}
-use Rattle.causes.specs.declared.Cause.{Cause}
+use lib.ListN.{length, take, drop, set, get_or, replicate, length-append, length-replicate}
+use Rattle.std.proofs.Common.{append_assoc}
+use Rattle.std.proofs.Math.Seq.{take-append-add}
+use Rattle.std.proofs.lemmas.List.{drop-replicate, take-replicate, map_more, length-take-le, length-map, take_all}
+use Rattle.std.specs.Prelude.{Option, Some, None}
 use Rattle.causes.specs.Causes as causes
-use Rattle.causes.specs.Causes.{cause_number}
 use Rattle.cie.specs.declared.Chromaticity.{Chromaticity}
-use Rattle.cie.specs.declared.Chromaticity.TheVariants.{None, At}
 use Rattle.cie.specs.declared.Colour.{Colour}
 use Rattle.endian.specs.Bytes.{twos}
-use Rattle.trials.specs.declared.TrialAnswer.{TrialAnswer}
-use Rattle.trials.specs.Tried.{amount_of, trial_outcome}
-use Rattle.looks.specs.declared.Seen.{Seen}
-use Rattle.looks.specs.declared.Seen.TheVariants as looks
-use Rattle.looks.specs.declared.Seen.TheVariants.{Previewed, Nearest}
-use Rattle.book_search.specs.declared.NearestAnswer.{NearestAnswer}
-use Rattle.book_search.specs.Searching.{nearest_outcome}
+use Rattle.tallies.specs.declared.Tallies.{Tallies}
+use Rattle.tallies.specs.ByTable.{table_count}
 use Rattle.looks.specs.Look.{previewed, found}
-use Rattle.looks.specs.Looked.{seen_answer}
-use Rattle.session.specs.declared.Answer.{Answer}
-use Rattle.session.specs.declared.Answer.TheVariants.{Accepted, Coloured, Tried, Refused}
-use Rattle.session.specs.Outcome.{Outcome, accepted, coloured, tried, counted, seen, refused}
-use Rattle.session.specs.Served.{outcome_of}
-use Rattle.answers.specs.Answers.{answer_words, chromaticity_words, colour_words, space_word, verdict_word, trial_words, nearest_words, padded, refused_record, set_words, answer_record}
+use Rattle.session.specs.Outcome.{VerdictCounts, Outcome, accepted, coloured, tried, counted, seen, refused}
+use Rattle.session.specs.Served.{counts_of}
+use Rattle.answers.specs.Answers.{answer_words, chromaticity_words, colour_words, trial_words, padded, set_words, answer_record}
 
 -- how long an answer is
 length-padded : (words : List ℕ) → length (padded words) ≡ answer_words
@@ -44,71 +36,78 @@ length-answer (seen (causes.accepted (found a))) = refl
 length-answer (seen (causes.refused cause)) = refl
 length-answer (refused cause) = refl
 
--- the words of a colour around those of its chromaticity, and three words more
-abbrev around : ℕ → Colour → List ℕ → (a b u v : ℕ) → List ℕ → List ℕ
-around kind c place a b u v more =
-    kind ∷ c.tristimulus.x ∷ c.tristimulus.y ∷ c.tristimulus.z ∷ ((place ++ (c.l ∷ a ∷ b ∷ u ∷ v ∷ c.cab ∷ c.cuv ∷ [])) ++ more)
+-- words stored over the zeros of an answer
+pub padded_over : (words : List ℕ) → length words ≤ answer_words → words ++ drop (length words) (replicate answer_words 0) ≡ padded words
+padded_over words h =
+    let n : ℕ = answer_words - length words in
+    let e : length words + n ≡ answer_words = omega arith in
+    ap (λ (zeros : List ℕ). words ++ zeros) (drop-replicate (length words) answer_words 0 ∙ sym (take-replicate n answer_words 0 (omega arith)))
+    ∙ sym (take-append-add words (replicate answer_words 0) n)
+    ∙ ap (λ (k : ℕ). take k (words ++ replicate answer_words 0)) e
 
-pub colour_laid : (kind amount₀ amount₁ verdict : ℕ) (c : Colour) {p q r a b u v : ℕ} → (p ∷ q ∷ r ∷ []) ≡ chromaticity_words c.chromaticity
-    → a ≡ twos c.a → b ≡ twos c.b → u ≡ twos c.u → v ≡ twos c.v
-    → padded (around kind c (p ∷ q ∷ r ∷ []) a b u v (amount₀ ∷ amount₁ ∷ verdict ∷ []))
-    ≡ padded (kind ∷ (colour_words c ++ (amount₀ ∷ amount₁ ∷ verdict ∷ [])))
-colour_laid kind amount₀ amount₁ verdict c ep ea eb eu ev =
-    λ i. padded (around kind c (ep i) (ea i) (eb i) (eu i) (ev i) (amount₀ ∷ amount₁ ∷ verdict ∷ []))
+-- the words of a colour around those of its chromaticity, and three words more
+abbrev around : Colour → List ℕ → List ℕ → List ℕ
+around c place more =
+    1 ∷ c.tristimulus.x ∷ c.tristimulus.y ∷ c.tristimulus.z
+    ∷ ((place ++ (c.l ∷ twos c.a ∷ twos c.b ∷ twos c.u ∷ twos c.v ∷ c.cab ∷ c.cuv ∷ [])) ++ more)
 
 -- a colour alone has zeros in the place of E and the verdict
-colour_alone : (c : Colour) → padded (1 ∷ (colour_words c ++ (0 ∷ 0 ∷ 0 ∷ []))) ≡ padded (1 ∷ colour_words c)
+pub colour_alone : (c : Colour) → padded (1 ∷ (colour_words c ++ (0 ∷ 0 ∷ 0 ∷ []))) ≡ padded (1 ∷ colour_words c)
 colour_alone c = go c.chromaticity
   where
-    go : (p : Chromaticity)
-        → padded (around 1 c (chromaticity_words p) (twos c.a) (twos c.b) (twos c.u) (twos c.v) (0 ∷ 0 ∷ 0 ∷ []))
+    go : (p : Option Chromaticity)
+        → padded (around c (chromaticity_words p) (0 ∷ 0 ∷ 0 ∷ []))
         ≡ padded
         (1 ∷ c.tristimulus.x ∷ c.tristimulus.y ∷ c.tristimulus.z
         ∷ (chromaticity_words p ++ (c.l ∷ twos c.a ∷ twos c.b ∷ twos c.u ∷ twos c.v ∷ c.cab ∷ c.cuv ∷ [])))
     go None = refl
-    go (At x y) = refl
+    go (Some p) = refl
 
--- the words of E and the verdict, after those of the colour
-pub trial_laid : (kind : ℕ) (t : TrialAnswer) {a b v : ℕ} {r : List ℕ}
-    → a ≡ space_word (amount_of t.difference).space → b ≡ (amount_of t.difference).units → v ≡ verdict_word t.verdict
-    → r ≡ padded (kind ∷ (colour_words t.colour ++ (a ∷ b ∷ v ∷ []))) → r ≡ padded (kind ∷ trial_words (trial_outcome t))
-trial_laid kind t p u k q = q ∙ λ i. padded (kind ∷ (colour_words t.colour ++ (p i ∷ u i ∷ k i ∷ [])))
+-- three words more in the place of zeros
+put_three : (xs : List ℕ) (n a b c : ℕ)
+    → set (set (set (xs ++ replicate (suc (suc (suc n))) 0) (length xs) a) (suc (length xs)) b) (suc (suc (length xs))) c
+    ≡ xs ++ (a ∷ b ∷ c ∷ replicate n 0)
+put_three [] n a b c = refl
+put_three (x ∷ xs) n a b c = ap (λ (ys : List ℕ). x ∷ ys) (put_three xs n a b c)
 
-pub refused_laid : {n cause : ℕ} {r : List ℕ} → n ≡ cause → r ≡ padded (4 ∷ n ∷ []) → r ≡ refused_record cause
-refused_laid k q = q ∙ ap refused_record k
+length-set_words : (sets : List VerdictCounts) → length (set_words sets) ≡ 3 * length sets
+length-set_words [] = refl
+length-set_words (n ∷ sets) = omega (arith, length-set_words sets)
 
--- the words that the code makes of each answer
-module _ {answer : Answer} {r : List ℕ} where
-  pub laid_accepted : answer ≡ Accepted → r ≡ padded (0 ∷ 0 ∷ []) → r ≡ answer_record (outcome_of answer)
-  unfolding answer_record
-  laid_accepted e q = rw e q
+set_words-append : (sets more : List VerdictCounts) → set_words (sets ++ more) ≡ set_words sets ++ set_words more
+set_words-append [] more = refl
+set_words-append (n ∷ sets) more = ap (λ (words : List ℕ). n.passed ∷ n.failed ∷ n.line ∷ words) (set_words-append sets more)
 
-  pub laid_coloured : {colour : Colour} → answer ≡ Coloured colour
-      → r ≡ padded (1 ∷ (colour_words colour ++ (0 ∷ 0 ∷ 0 ∷ []))) → r ≡ answer_record (outcome_of answer)
-  unfolding answer_record
-  laid_coloured {colour} e q = rw e (q ∙ colour_alone colour)
+-- a report with the tallies of its first tables, and zeros
+abbrev pub report_begun : List Tallies → ℕ → List ℕ
+report_begun sets i = (3 ∷ set_words (map counts_of (take i sets))) ++ replicate (31 - 3 * i) 0
 
-  pub laid_tried : {t : TrialAnswer} → answer ≡ Tried t → r ≡ padded (2 ∷ trial_words (trial_outcome t)) → r ≡ answer_record (outcome_of answer)
-  unfolding answer_record
-  laid_tried e q = rw e q
+length-begun : (sets : List Tallies) (i : ℕ) → i ≤ length sets → length (3 ∷ set_words (map counts_of (take i sets))) ≡ 3 * i + 1
+length-begun sets i h =
+    omega (arith, length-set_words (map counts_of (take i sets)), length-map (take i sets) counts_of, length-take-le i sets h)
 
-  pub laid_refused : {cause : Cause} → answer ≡ Refused cause → r ≡ refused_record (cause_number cause) → r ≡ answer_record (outcome_of answer)
-  unfolding answer_record
-  laid_refused e q = rw e q
+pub report_more : (sets : List Tallies) (i : ℕ) (none : Tallies) → i < table_count → i < length sets
+    → let t = get_or sets i none in
+    set (set (set (report_begun sets i) (3 * i + 1) t.passed) (3 * i + 2) t.failed) (3 * i + 3) t.line ≡ report_begun sets (i + 1)
+report_more sets i none h k =
+    let t = get_or sets i none in
+    let before : List ℕ = 3 ∷ set_words (map counts_of (take i sets)) in
+    let n : ℕ = 31 - 3 * (i + 1) in
+    let long = length-begun sets i (omega arith) in
+    let left : 31 - 3 * i ≡ suc (suc (suc n)) = omega arith in
+    let first : 3 * i + 1 ≡ length before = omega arith in
+    let second : 3 * i + 2 ≡ suc (length before) = omega arith in
+    let third : 3 * i + 3 ≡ suc (suc (length before)) = omega arith in
+    (λ j. set (set (set (before ++ replicate (left j) 0) (first j) t.passed) (second j) t.failed) (third j) t.line)
+    ∙ put_three before n t.passed t.failed t.line
+    ∙ sym (append_assoc before (t.passed ∷ t.failed ∷ t.line ∷ []) (replicate n 0))
+    ∙ ap (λ (words : List ℕ). (3 ∷ words) ++ replicate n 0)
+    (sym (ap set_words (map_more counts_of sets i none k) ∙ set_words-append (map counts_of (take i sets)) (counts_of t ∷ [])))
 
--- and of a look's
-module _ {answer : Seen} {r : List ℕ} where
-  pub laid_previewed : {t : TrialAnswer} → answer ≡ Previewed t → r ≡ padded (5 ∷ trial_words (trial_outcome t))
-      → r ≡ answer_record (seen (seen_answer answer))
-  unfolding answer_record
-  laid_previewed e q = rw e q
-
-  pub laid_nearest : {a : NearestAnswer} → answer ≡ Nearest a → r ≡ padded (6 ∷ nearest_words (nearest_outcome a))
-      → r ≡ answer_record (seen (seen_answer answer))
-  unfolding answer_record
-  laid_nearest e q = rw e q
-
-  pub laid_unseen : {cause : Cause} → answer ≡ looks.Refused cause → r ≡ refused_record (cause_number cause)
-      → r ≡ answer_record (seen (seen_answer answer))
-  unfolding answer_record
-  laid_unseen e q = rw e q
+pub report_whole : (sets : List Tallies) → length sets ≡ table_count → report_begun sets table_count ≡ padded (3 ∷ set_words (map counts_of sets))
+report_whole sets h =
+    let words : List ℕ = 3 ∷ set_words (map counts_of sets) in
+    let long : length words ≡ 25 = omega (arith, length-set_words (map counts_of sets), length-map sets counts_of) in
+    ap (λ (xs : List Tallies). (3 ∷ set_words (map counts_of xs)) ++ replicate 7 0) (take_all table_count sets (omega arith))
+    ∙ ap (λ (k : ℕ). words ++ drop k (replicate answer_words 0)) (sym long)
+    ∙ padded_over words (omega arith)

@@ -10,11 +10,10 @@
 --   6  the nearest shade: full comparisons made (1), the best shade's number (2), the gap (3), E (4), both in CIELAB
 -- A colour is X, Y, Z, whether it has a chromaticity (1 or 0), x, y (0 where it has none), L, a, b, u, v, CIELAB chroma, CIELUV chroma; a, b, u
 -- and v are signed, in two's complement. Words that an answer does not name are 0.
-use Rattle.std.specs.Prelude.{List, [], ◌∷◌, ◌++◌, ℕ, take, replicate}
+use Rattle.std.specs.Prelude.{List, [], ◌∷◌, ◌++◌, ℕ, take, replicate, Option, Some, None}
 use Rattle.causes.specs.Causes as causes
 use Rattle.endian.specs.Bytes.{twos}
 use Rattle.cie.specs.declared.Chromaticity.{Chromaticity}
-use Rattle.cie.specs.declared.Chromaticity.TheVariants.{None, At}
 use Rattle.cie.specs.declared.Colour.{Colour}
 use Rattle.cie.specs.declared.Space.{Space}
 use Rattle.cie.specs.declared.Space.TheVariants.{Cielab, Cieluv}
@@ -28,9 +27,9 @@ use Rattle.session.specs.Outcome.{VerdictCounts, Outcome, accepted, coloured, tr
 abbrev pub answer_words : ℕ
 answer_words = 32
 
-abbrev pub chromaticity_words : Chromaticity → List ℕ
+abbrev pub chromaticity_words : Option Chromaticity → List ℕ
 chromaticity_words None = 0 ∷ 0 ∷ 0 ∷ []
-chromaticity_words (At x y) = 1 ∷ x ∷ y ∷ []
+chromaticity_words (Some p) = 1 ∷ p.x ∷ p.y ∷ []
 
 abbrev pub colour_words : Colour → List ℕ
 colour_words c =

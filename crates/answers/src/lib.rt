@@ -16,25 +16,33 @@ use book_search::NearestAnswer;
 use causes::Cause;
 use cie::{Chromaticity, Colour, Verdict};
 use looks::Seen;
-use rules::Difference;
+use rules::Units;
 use session::{Answer, ReportAnswer};
 use trials::TrialAnswer;
 
 pub const ANSWER_WORDS: usize = 32;
 
-// Whether a chromaticity is there, and its x and y.
-#[derive(Clone, Copy)]
-struct Place(u32, u32, u32);
-
-fn place_of(c: Chromaticity) -> Place
-    ensures { (result.0 ∷ result.1 ∷ result.2 ∷ []) ≡ chromaticity_words c }
+// The words, and zeros up to the length of an answer.
+fn padded(words: &[u32]) -> [u32; ANSWER_WORDS]
+    requires { length words.now ≤ answer_words }
+    ensures { result ≡ padded words.now }
 {
-    match c {
-        Chromaticity::None => Place(0, 0, 0),
-        Chromaticity::At(x, y) => Place(1, x, y),
+    let mut record = [0u32; ANSWER_WORDS];
+    record[..words.len()].copy_from_slice(words);
+    record
+}
+
+// Whether a chromaticity is there, and its x and y.
+fn place_of(chromaticity: Option<Chromaticity>) -> (u32, u32, u32)
+    ensures { (result.0 ∷ result.1 ∷ result.2 ∷ []) ≡ chromaticity_words chromaticity }
+{
+    match chromaticity {
+        None => (0, 0, 0),
+        Some(Chromaticity { x, y }) => (1, x, y),
     }
 }
 
+// A function, and no `From`: `Verdict` and `u32` are both of other crates.
 fn verdict_word(v: Verdict) -> u32
     ensures { result ≡ verdict_word v }
 {
@@ -46,156 +54,116 @@ fn verdict_word(v: Verdict) -> u32
 }
 
 // The space of a difference, and its units.
-#[derive(Clone, Copy)]
-struct Amount(u32, u32);
-
-fn amount_of(e: Difference) -> Amount
+fn amount_of(e: Units) -> (u32, u32)
     ensures { (result.0 ≡ space_word (amount_of e).space) × (result.1 ≡ (amount_of e).units) }
 {
     match e {
-        Difference::Lab(units) => Amount(0, units.0),
-        Difference::Luv(units) => Amount(1, units.0),
+        Units::Lab(units) => (0, units.0),
+        Units::Luv(units) => (1, units.0),
     }
 }
 
 // The words of an answer that has a colour.
-fn colour_words(kind: u32, c: Colour, amount: Amount, verdict: u32) -> [u32; 32]
+fn colour_words(kind: u32, c: Colour, amount: (u32, u32), verdict: u32) -> [u32; ANSWER_WORDS]
     ensures { result ≡ padded (kind ∷ (colour_words c ++ (amount.0 ∷ amount.1 ∷ verdict ∷ []))) }
 {
-    let chromaticity = c.chromaticity;
-    let place = place_of(chromaticity);
-    let mut words = [0u32; 32];
-    words[0] = kind;
-    words[1] = c.tristimulus.x;
-    words[2] = c.tristimulus.y;
-    words[3] = c.tristimulus.z;
-    words[4] = place.0;
-    words[5] = place.1;
-    words[6] = place.2;
-    words[7] = c.l;
-    words[8] = endian::bits(c.a);
-    words[9] = endian::bits(c.b);
-    words[10] = endian::bits(c.u);
-    words[11] = endian::bits(c.v);
-    words[12] = c.cab;
-    words[13] = c.cuv;
-    words[14] = amount.0;
-    words[15] = amount.1;
-    words[16] = verdict;
-    words
+    let (there, x, y) = place_of(c.chromaticity);
+    padded(&[
+        kind,
+        c.tristimulus.x,
+        c.tristimulus.y,
+        c.tristimulus.z,
+        there,
+        x,
+        y,
+        c.l,
+        endian::bits(c.a),
+        endian::bits(c.b),
+        endian::bits(c.u),
+        endian::bits(c.v),
+        c.cab,
+        c.cuv,
+        amount.0,
+        amount.1,
+        verdict,
+    ])
+}
+
+// The words of a colour alone: zeros stand in the place of E and the verdict.
+fn coloured_words(colour: Colour) -> [u32; ANSWER_WORDS]
+    ensures { result ≡ padded (1 ∷ colour_words colour) }
+{
+    colour_words(1, colour, (0, 0), 0)
 }
 
 // The words of a trial's answer, or of a preview's, by its kind.
-fn trial_words(kind: u32, t: TrialAnswer) -> [u32; 32]
+fn trial_words(kind: u32, t: TrialAnswer) -> [u32; ANSWER_WORDS]
     ensures { result ≡ padded (kind ∷ trial_words (trial_outcome t)) }
 {
-    let colour = t.colour;
-    let e = t.difference;
-    let verdict = t.verdict;
-    colour_words(kind, colour, amount_of(e), verdict_word(verdict))
+    colour_words(
+        kind,
+        t.colour,
+        amount_of(t.difference),
+        verdict_word(t.verdict),
+    )
 }
 
 // The words of a report's answer: the tallies of table 1, of table 2, and so on.
-#[tactic(auto, unfolding(crate::specs::Answers::answer_record))]
-fn report_words(report: ReportAnswer) -> [u32; 32]
-    ensures { result ≡ answer_record (outcome_of (Counted report)) }
+fn report_words(report: ReportAnswer) -> [u32; ANSWER_WORDS]
+    ensures { result ≡ answer_record (outcome_of (Ok (Counted report))) }
 {
-    let sets = report.tallies;
-    [
-        3,
-        sets.first.passed,
-        sets.first.failed,
-        sets.first.line,
-        sets.second.passed,
-        sets.second.failed,
-        sets.second.line,
-        sets.third.passed,
-        sets.third.failed,
-        sets.third.line,
-        sets.fourth.passed,
-        sets.fourth.failed,
-        sets.fourth.line,
-        sets.fifth.passed,
-        sets.fifth.failed,
-        sets.fifth.line,
-        sets.sixth.passed,
-        sets.sixth.failed,
-        sets.sixth.line,
-        sets.seventh.passed,
-        sets.seventh.failed,
-        sets.seventh.line,
-        sets.eighth.passed,
-        sets.eighth.failed,
-        sets.eighth.line,
-        0,
-        0,
-        0,
-        0,
-        0,
-        0,
-        0,
-    ]
-}
-
-// The words of an answer that has at most one number.
-fn short_words(kind: u32, a: u32) -> [u32; 32]
-    ensures { result ≡ padded (kind ∷ a ∷ []) }
-{
-    let mut words = [0u32; 32];
-    words[0] = kind;
-    words[1] = a;
+    let mut words = [0u32; ANSWER_WORDS];
+    words[0] = 3;
+    for (i, set) in report.tallies.iter().enumerate() {
+        words[3 * i + 1] = set.passed;
+        words[3 * i + 2] = set.failed;
+        words[3 * i + 3] = set.line;
+    }
     words
 }
 
-fn refused_words(cause: Cause) -> [u32; 32]
+fn refused_words(cause: Cause) -> [u32; ANSWER_WORDS]
     ensures { result ≡ refused_record (cause_number cause) }
 {
-    short_words(4, causes::number(cause))
+    padded(&[4, u32::from(cause)])
 }
 
 // The words of a search's answer.
-fn nearest_words(a: NearestAnswer) -> [u32; 32]
+fn nearest_words(a: NearestAnswer) -> [u32; ANSWER_WORDS]
     ensures { result ≡ padded (6 ∷ nearest_words (nearest_outcome a)) }
 {
-    let mut words = [0u32; 32];
-    words[0] = 6;
-    words[1] = a.count;
-    words[2] = a.shade as u32;
-    words[3] = a.gap.0;
-    words[4] = a.e.0;
-    words
+    padded(&[6, a.count, u32::from(a.shade), a.gap.0, a.e.0])
 }
 
 #[tactic(auto, unfolding(crate::specs::Answers::answer_record))]
-fn seen_words(answer: Seen) -> [u32; 32]
+fn seen_words(answer: Result<Seen, Cause>) -> [u32; ANSWER_WORDS]
     ensures { result ≡ answer_record (seen (seen_answer answer)) }
 {
     match answer {
-        Seen::Previewed(t) => trial_words(5, t),
-        Seen::Nearest(a) => nearest_words(a),
-        Seen::Refused(cause) => refused_words(cause),
+        Ok(Seen::Previewed(t)) => trial_words(5, t),
+        Ok(Seen::Nearest(a)) => nearest_words(a),
+        Err(cause) => refused_words(cause),
     }
 }
 
 #[tactic(auto, unfolding(crate::specs::Answers::answer_record))]
-fn words_of(answer: Answer) -> [u32; 32]
+fn words_of(answer: Result<Answer, Cause>) -> [u32; ANSWER_WORDS]
     ensures { result ≡ answer_record (outcome_of answer) }
 {
     match answer {
-        Answer::Accepted => short_words(0, 0),
-        Answer::Coloured(colour) => colour_words(1, colour, Amount(0, 0), 0),
-        Answer::Tried(t) => trial_words(2, t),
-        Answer::Counted(r) => report_words(r),
-        Answer::Seen(seen) => seen_words(seen),
-        Answer::Refused(cause) => refused_words(cause),
+        Ok(Answer::Accepted) => padded(&[0]),
+        Ok(Answer::Coloured(colour)) => coloured_words(colour),
+        Ok(Answer::Tried(t)) => trial_words(2, t),
+        Ok(Answer::Counted(r)) => report_words(r),
+        Ok(Answer::Seen(seen)) => seen_words(seen),
+        Err(cause) => refused_words(cause),
     }
 }
 
 // Writes an answer's words at the start of the part that is lent.
-pub fn write(part: &mut [u32], answer: Answer)
+pub fn write(part: &mut [u32], answer: Result<Answer, Cause>)
     requires { answer_words ≤ length part.old }
     ensures { part.new ≡ sets part.old 0 (answer_record (outcome_of answer)) }
 {
-    let words = words_of(answer);
-    stores::put_words(part, &words);
+    stores::put_words(part, &words_of(answer));
 }

@@ -6,7 +6,7 @@ use native.Mathlib.Omega.{arith}
 use mathlib.Core.List.{List}
 use lib.ListN.{length, get_or}
 use lib.Dec.{leb, ltb, eqb}
-use borrow.Author.Tests.{leb-true, eqb-true, le-leb, lt-leb, eq-eqb, ne_eqb, not-true}
+use borrow.Author.Tests.{leb-true, eqb-true, le-leb, lt-leb, eq-eqb, not-true}
 use Rattle.cie.specs.Scales.{any_above, reader_limit}
 use Rattle.endian.specs.Bytes.{at16, at32, words}
 use Rattle.endian.proofs.Words.{length-words, words_within, get_d_words}
@@ -32,31 +32,11 @@ module _ (rows : ℕ) (s : List ℕ) where
   unfolding is_book
   begins_otherwise h = rw (h, and-false (leb head_length (length s)))
 
-  module _ {n : ℕ} (p : n ≡ count_of s) where
-    pub too_many : most_shades < n → false ≡ is_book rows s
-    unfolding is_book
-    too_many h = rw (lt-leb (count_of s) most_shades (omega arith), and-false (leb head_length (length s) && starts_with magic s))
-
-    pub other_length : {t : ℕ} → t ≡ total rows n → (length s ≡ t → ⊥) → false ≡ is_book rows s
-    unfolding is_book
-    other_length q h =
-        rw (
-          ne_eqb (length s) (total rows (count_of s)) (λ e. h (e ∙ ap (total rows) (sym p) ∙ sym q)),
-          and-false (leb head_length (length s) && starts_with magic s && leb (count_of s) most_shades),
-        )
-
-    pub wrong_entries : entries_ok rows s head_length 0 (bodies_at n) n ≡ false → false ≡ is_book rows s
-    unfolding is_book
-    wrong_entries h =
-        let e : entries_ok rows s head_length 0 (bodies_at (count_of s)) (count_of s) ≡ false =
-        ap (λ (m : ℕ). entries_ok rows s head_length 0 (bodies_at m) m) (sym p) ∙ h in
-        rw (e, and-false (leb head_length (length s) && starts_with magic s && leb (count_of s) most_shades && eqb (length s) (total rows (count_of s))))
-
-    pub last_rule : head_length ≤ length s → starts_with magic s ≡ true → n ≤ most_shades → length s ≡ total rows n
-        → entries_ok rows s head_length 0 (bodies_at n) n ≡ true → not (any_above reader_limit (readings_in rows s n)) ≡ is_book rows s
-    unfolding is_book
-    last_rule h₁ h₂ h₃ h₄ h₅ =
-        rw (← p, le-leb head_length (length s) h₁, h₂, le-leb n most_shades h₃, eq-eqb (length s) (total rows n) h₄, h₅)
+  pub last_rule : {n : ℕ} → n ≡ count_of s → head_length ≤ length s → starts_with magic s ≡ true → n ≤ most_shades → length s ≡ total rows n
+      → entries_ok rows s head_length 0 (bodies_at n) n ≡ true → not (any_above reader_limit (readings_in rows s n)) ≡ is_book rows s
+  unfolding is_book
+  last_rule {n} p h₁ h₂ h₃ h₄ h₅ =
+      rw (← p, le-leb head_length (length s) h₁, h₂, le-leb n most_shades h₃, eq-eqb (length s) (total rows n) h₄, h₅)
 
 -- what a book is, rule by rule
 pub record Rules (rows : ℕ) (s : List ℕ) : Type 0 where

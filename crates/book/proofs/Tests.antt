@@ -1,126 +1,135 @@
 -- The loops that test: what is left, tested from here, decides as the whole does, since what is passed has passed. Assumes nothing.
 use mathlib.Core.Path.{◌≡◌, refl, sym, ap, ◌∙◌}
-use mathlib.Core.Bool.{Bool, true, false, ◌&&◌, ◌||◌, not, cond, true≢false}
-use Prim.Native.Nat.{ℕ, suc, ◌+◌, ◌*◌, ◌≤◌, ◌<◌}
+use mathlib.Core.Bool.{Bool, true, false, ◌&&◌, ◌||◌, cond, true≢false}
+use Prim.Native.Nat.{ℕ, zero, suc, ◌+◌, ◌-◌, ◌*◌, ◌≤◌, ◌<◌}
 use native.Mathlib.Omega.{arith}
 use native.Mathlib.Nat.{mul-zero}
-use native.Mathlib.Numerals.{add-one}
-use mathlib.Core.List.{List, [], ◌∷◌, ◌++◌}
-use lib.ListN.{length, get_or, take, drop, length-append, drop_of_length-le}
-use lib.Seq.{drop-cons, take_at}
+use mathlib.Core.List.{List, [], ◌∷◌}
+use Rattle.std.specs.Cmp.Lexicographic.{pointwise}
+use Rattle.std.proofs.Common.{Option, None, Some, MatchOption}
+use Rattle.std.proofs.lemmas.Bool.Decides.{nat_tests}
+use lib.ListN.{length, get_or, take}
 use lib.Dec.{ltb, eqb}
-use borrow.Author.Tests.{ltb-true, ltb-false, lt-ltb, le-ltb, eq-eqb, ne_eqb, eqb-true, not-true, not-false}
+use borrow.Author.Tests.{ltb-true, ltb-false, eq-eqb, ne_eqb, eqb-true}
 use Rattle.cie.specs.Scales.{any_above}
 use Rattle.cie.proofs.Scales.{above_append}
-use Rattle.endian.specs.Bytes.{at16, at32, words}
-use Rattle.endian.proofs.Words.{length-words, words_add}
-use Rattle.book.specs.Book.{entry_length, body_length, starts_with, entry_ok, entries_ok, is_in, index_of}
+use Rattle.endian.specs.Bytes.{at16, words}
+use Rattle.endian.proofs.Words.{words_add}
+use Rattle.book.specs.Book.{head_length, entry_length, body_length, bodies_at, starts_with, entry_ok, entries_ok, readings_in, is_in, index_of}
 
--- the arms of `if !f(x)`, where f ensures what its result is
-pub fails : {a b : Bool} → a ≡ b → not a ≡ true → b ≡ false
-fails {a} e t = sym e ∙ not-true a t
+eqb_swap : (x y : ℕ) → eqb x y ≡ eqb y x
+eqb_swap x y = grind (arith, nat_tests)
 
-pub holds : {a b : Bool} → a ≡ b → not a ≡ false → b ≡ true
-holds {a} e t = sym e ∙ not-false a t
-
--- bytes that begin with a text
-module _ (p s : List ℕ) (i : ℕ) (h : i < length p) (k : i < length s) where
-  starts_first : starts_with (drop i p) (drop i s) ≡ (eqb (get_or s i 0) (get_or p i 0) && starts_with (drop (i + 1) p) (drop (i + 1) s))
-  unfolding starts_with
-  starts_first = rw (add-one, drop-cons p i 0 h, drop-cons s i 0 k)
-
-  pub starts_on : get_or s i 0 ≡ get_or p i 0 → starts_with (drop (i + 1) p) (drop (i + 1) s) ≡ starts_with (drop i p) (drop i s)
-  starts_on e = rw (starts_first, eq-eqb (get_or s i 0) (get_or p i 0) e)
-
-  pub starts_off : (get_or s i 0 ≡ get_or p i 0 → ⊥) → false ≡ starts_with (drop i p) (drop i s)
-  starts_off e = rw (starts_first, ne_eqb (get_or s i 0) (get_or p i 0) e)
-
-pub starts_end : (p s : List ℕ) (i : ℕ) → length p ≤ i → true ≡ starts_with (drop i p) (drop i s)
+-- bytes that begin with a text: the library compares as the definition does
+pub starts_same : (p s : List ℕ) → pointwise eqb p (take (length p) s) ≡ starts_with p s
 unfolding starts_with
-starts_end p s i h = rw (drop_of_length-le p h)
+starts_same [] s = refl
+starts_same (x ∷ p) [] = refl
+starts_same (x ∷ p) (y ∷ s) = go (starts_same p s) (eqb_swap x y)
+  where
+    go : pointwise eqb p (take (length p) s) ≡ starts_with p s → eqb x y ≡ eqb y x
+        → (eqb x y && pointwise eqb p (take (length p) s)) ≡ (eqb y x && starts_with p s)
+    go e f = rw (e, f)
 
--- an entry, by the numbers that the code reads
-module _ (rows : ℕ) (s : List ℕ) (at before offset : ℕ) {k : ℕ} (p : k ≡ at16 s at) where
-  pub entry_low : k ≤ before → false ≡ entry_ok rows s at before offset
-  unfolding entry_ok
-  entry_low h = rw (le-ltb before (at16 s at) (omega arith))
+-- the entries from the i-th of n on, where the number before them is known
+abbrev pub entries_from : ℕ → List ℕ → ℕ → ℕ → ℕ → Bool
+entries_from rows s n i before =
+    entries_ok rows s (head_length + entry_length * i) before (bodies_at n + body_length rows * i) (n - i)
 
-  module _ (h : before < k) {l b : ℕ} (q : l ≡ at16 s (at + 2)) (r : b ≡ body_length rows) where
-    pub entry_other : (l ≡ b → ⊥) → false ≡ entry_ok rows s at before offset
-    unfolding entry_ok
-    entry_other g = rw (lt-ltb before (at16 s at) (omega arith), ne_eqb (at16 s (at + 2)) (body_length rows) (λ e. g (q ∙ e ∙ sym r)))
-
-    pub entry_last : l ≡ b → {o : ℕ} → o ≡ at32 s (at + 4) → eqb o offset ≡ entry_ok rows s at before offset
-    unfolding entry_ok
-    entry_last g {o} e =
-        rw (lt-ltb before (at16 s at) (omega arith), eq-eqb (at16 s (at + 2)) (body_length rows) (sym q ∙ g ∙ r)) (ap (λ (x : ℕ). eqb x offset) e)
-
--- the entries
-module _ (rows : ℕ) (s : List ℕ) (at before offset m : ℕ) {n : ℕ} (more : n ≡ suc m) where
-  entries_first : entries_ok rows s at before offset n
-      ≡ (entry_ok rows s at before offset && entries_ok rows s (at + entry_length) (at16 s at) (offset + body_length rows) m)
+module _ (rows : ℕ) (s : List ℕ) (n i before : ℕ) where
+  entries_first : i < n
+      → entries_from rows s n i before
+      ≡ (entry_ok rows s (head_length + entry_length * i) before (bodies_at n + body_length rows * i)
+      && entries_from rows s n (i + 1) (at16 s (head_length + entry_length * i)))
   unfolding entries_ok
-  entries_first = ap (λ (k : ℕ). entries_ok rows s at before offset k) more
+  entries_first h =
+      let at = head_length + entry_length * i in
+      let offset = bodies_at n + body_length rows * i in
+      let more : n - i ≡ suc (n - (i + 1)) = omega arith in
+      let next : at + entry_length ≡ head_length + entry_length * (i + 1) = omega arith in
+      let due : offset + body_length rows ≡ bodies_at n + body_length rows * (i + 1) = omega arith in
+      ap (λ (k : ℕ). entries_ok rows s at before offset k) more
+      ∙ ap (λ (x : ℕ). entry_ok rows s at before offset && entries_ok rows s x (at16 s at) (offset + body_length rows) (n - (i + 1))) next
+      ∙ ap (λ (x : ℕ). entry_ok rows s at before offset && entries_ok rows s (head_length + entry_length * (i + 1)) (at16 s at) x (n - (i + 1))) due
 
-  pub entries_off : {right : Bool} → right ≡ entry_ok rows s at before offset → not right ≡ true → false ≡ entries_ok rows s at before offset n
-  entries_off e t = rw (entries_first, fails e t)
+  module _ (h : i < n) {b : ℕ} (q : b ≡ body_length rows) {right : Bool}
+      (e : right ≡ entry_ok rows s (head_length + entry_length * i) before (bodies_at n + b * i)) where
+    entry_here : right ≡ entry_ok rows s (head_length + entry_length * i) before (bodies_at n + body_length rows * i)
+    entry_here = e ∙ ap (λ (x : ℕ). entry_ok rows s (head_length + entry_length * i) before (bodies_at n + x * i)) q
 
-  pub entries_on : {right : Bool} → right ≡ entry_ok rows s at before offset → not right ≡ false → {k b : ℕ} → k ≡ at16 s at → b ≡ body_length rows
-      → entries_ok rows s (at + entry_length) k (offset + b) m ≡ entries_ok rows s at before offset n
-  entries_on e t {k} {b} p q =
-      ap (λ (x : ℕ). entries_ok rows s (at + entry_length) x (offset + b) m) p
-      ∙ rw (entries_first, holds e t) (ap (λ (x : ℕ). entries_ok rows s (at + entry_length) (at16 s at) (offset + x) m) q)
+    pub entries_off : right ≡ false → false ≡ entries_from rows s n i before
+    entries_off t = rw (entries_first h, sym entry_here ∙ t)
 
-pub entries_end : (rows : ℕ) (s : List ℕ) (at before offset n : ℕ) → n ≤ 0 → true ≡ entries_ok rows s at before offset n
-unfolding entries_ok
-entries_end rows s at before offset n h = let e : n ≡ 0 = omega arith in rw e
+    pub entries_on : right ≡ true → {k : ℕ} → k ≡ at16 s (head_length + entry_length * i)
+        → entries_from rows s n (i + 1) k ≡ entries_from rows s n i before
+    entries_on t p = ap (entries_from rows s n (i + 1)) p ∙ rw (entries_first h, sym entry_here ∙ t)
 
--- readings above a limit, body by body
-module _ (limit rows : ℕ) (s : List ℕ) (at m : ℕ) {n : ℕ} (more : n ≡ suc m) where
-  bodies_first : any_above limit (words s at 2 (rows * n)) ≡ (any_above limit (words s at 2 rows) || any_above limit (words s (at + body_length rows) 2 (rows * m)))
-  bodies_first =
-      let e : rows * n ≡ rows + rows * m = ap (λ (k : ℕ). rows * k) more ∙ omega arith in
-      ap (λ (k : ℕ). any_above limit (words s at 2 k)) e ∙ ap (any_above limit) (words_add s rows (rows * m) at 2)
-      ∙ above_append limit (words s at 2 rows) (words s (at + body_length rows) 2 (rows * m))
+  pub entries_end : n ≤ i → true ≡ entries_from rows s n i before
+  unfolding entries_ok
+  entries_end h = let e : n - i ≡ 0 = omega arith in rw e
 
-  pub bodies_on : any_above limit (words s at 2 rows) ≡ false → {b : ℕ} → b ≡ body_length rows
-      → any_above limit (words s (at + b) 2 (rows * m)) ≡ any_above limit (words s at 2 (rows * n))
-  bodies_on h q = rw (bodies_first, h) (ap (λ (x : ℕ). any_above limit (words s (at + x) 2 (rows * m))) q)
+-- readings above a limit, in the bodies from the i-th of n on
+abbrev pub above_from : ℕ → ℕ → List ℕ → ℕ → ℕ → Bool
+above_from limit rows s n i = any_above limit (words s (bodies_at n + body_length rows * i) 2 (rows * (n - i)))
 
-  pub bodies_off : any_above limit (words s at 2 rows) ≡ true → true ≡ any_above limit (words s at 2 (rows * n))
-  bodies_off h = rw (bodies_first, h)
+pub bodies_all : (limit rows : ℕ) (s : List ℕ) (n : ℕ) → any_above limit (readings_in rows s n) ≡ above_from limit rows s n 0
+unfolding readings_in
+bodies_all limit rows s n =
+    let first : bodies_at n ≡ bodies_at n + body_length rows * 0 = omega arith in
+    let all : n ≡ n - 0 = omega arith in
+    ap (λ (x : ℕ). any_above limit (words s x 2 (rows * n))) first
+    ∙ ap (λ (k : ℕ). any_above limit (words s (bodies_at n + body_length rows * 0) 2 (rows * k))) all
 
-pub bodies_end : (limit rows : ℕ) (s : List ℕ) (at n : ℕ) → n ≤ 0 → false ≡ any_above limit (words s at 2 (rows * n))
-unfolding any_above words
-bodies_end limit rows s at n h = let z : n ≡ 0 = omega arith in let e : rows * n ≡ 0 = ap (λ (k : ℕ). rows * k) z ∙ mul-zero rows in rw e
+module _ (limit rows : ℕ) (s : List ℕ) (n i : ℕ) where
+  bodies_first : i < n
+      → above_from limit rows s n i
+      ≡ (any_above limit (words s (bodies_at n + body_length rows * i) 2 rows) || above_from limit rows s n (i + 1))
+  bodies_first h =
+      let at = bodies_at n + body_length rows * i in
+      let m = rows * (n - (i + 1)) in
+      let more : n - i ≡ suc (n - (i + 1)) = omega arith in
+      let e : rows * (n - i) ≡ rows + m = ap (λ (k : ℕ). rows * k) more ∙ omega arith in
+      let next : at + 2 * rows ≡ bodies_at n + body_length rows * (i + 1) = omega arith in
+      ap (λ (k : ℕ). any_above limit (words s at 2 k)) e ∙ ap (any_above limit) (words_add s rows m at 2)
+      ∙ above_append limit (words s at 2 rows) (words s (at + 2 * rows) 2 m)
+      ∙ ap (λ (x : ℕ). any_above limit (words s at 2 rows) || any_above limit (words s x 2 m)) next
 
--- a body read into the front of an array, which has the rows: the front holds the body
-module _ (s : List ℕ) (at rows : ℕ) (array : List ℕ) (n : length (take rows array) ≡ rows) {front : List ℕ}
-    (e : front ≡ words s at 2 (length (take rows array))) where
-  pub front_read : take rows (front ++ drop rows array) ≡ words s at 2 rows
-  front_read =
-      let f : front ≡ words s at 2 rows = e ∙ ap (words s at 2) n in
-      take_at front (drop rows array) rows (ap length f ∙ length-words s at 2 rows) ∙ f
+  module _ (h : i < n) {b : ℕ} (q : b ≡ body_length rows) {above : Bool} (e : above ≡ any_above limit (words s (bodies_at n + b * i) 2 rows)) where
+    body_here : above ≡ any_above limit (words s (bodies_at n + body_length rows * i) 2 rows)
+    body_here = e ∙ ap (λ (x : ℕ). any_above limit (words s (bodies_at n + x * i) 2 rows)) q
 
-  pub front_kept : rows ≡ length (take rows (front ++ drop rows array))
-  front_kept = sym (ap length front_read ∙ length-words s at 2 rows)
+    pub bodies_off : above ≡ true → true ≡ above_from limit rows s n i
+    bodies_off t = rw (bodies_first h, sym body_here ∙ t)
 
-  pub front_within : rows ≤ length (front ++ drop rows array)
-  front_within = omega (arith, length-append front (drop rows array), ap length e, length-words s at 2 (length (take rows array)), n)
+    pub bodies_on : above ≡ false → above_from limit rows s n (i + 1) ≡ above_from limit rows s n i
+    bodies_on t = rw (bodies_first h, sym body_here ∙ t)
 
--- the place of a number
-module _ (l : List ℕ) (i k : ℕ) (h : i < length l) where
-  pub index_here : get_or l i 0 ≡ k → index_of k (drop i l) ≡ 0
-  unfolding index_of
-  index_here e = rw (drop-cons l i 0 h, eq-eqb (get_or l i 0) k e)
+  pub bodies_end : n ≤ i → false ≡ above_from limit rows s n i
+  unfolding any_above words
+  bodies_end h = let z : n - i ≡ 0 = omega arith in let e : rows * (n - i) ≡ 0 = ap (λ (k : ℕ). rows * k) z ∙ mul-zero rows in rw e
 
-  pub index_on : (get_or l i 0 ≡ k → ⊥) → index_of k (drop i l) ≡ suc (index_of k (drop (i + 1) l))
-  unfolding index_of
-  index_on e = rw (add-one, drop-cons l i 0 h, ne_eqb (get_or l i 0) k e)
-
-pub index_end : (l : List ℕ) (i k : ℕ) → length l ≤ i → index_of k (drop i l) ≡ 0
+-- the place of a number: where it stands first, or the list's length where it stands nowhere
+pub index_first : (k : ℕ) (xs : List ℕ) (i : ℕ) → i < length xs → get_or xs i 0 ≡ k → ((j : ℕ) → j < i → get_or xs j 0 ≡ k → ⊥) → i ≡ index_of k xs
 unfolding index_of
-index_end l i k h = rw (drop_of_length-le l h)
+index_first k [] i h e before = absurd (omega arith)
+index_first k (x ∷ xs) zero h e before = rw (eq-eqb x k e)
+index_first k (x ∷ xs) (suc i) h e before =
+    let next = index_first k xs i (omega arith) e (λ j g. before (suc j) (omega arith)) in
+    rw (ne_eqb x k (before 0 (omega arith))) (ap suc next)
+
+pub index_nowhere : (k : ℕ) (xs : List ℕ) → ((j : ℕ) → j < length xs → get_or xs j 0 ≡ k → ⊥) → index_of k xs ≡ length xs
+unfolding index_of
+index_nowhere k [] none = refl
+index_nowhere k (x ∷ xs) none =
+    let next = index_nowhere k xs (λ j g. none (suc j) (omega arith)) in
+    rw (ne_eqb x k (none 0 (omega arith))) (ap suc next)
+
+pub found_place : (k : ℕ) (xs : List ℕ) {n count : ℕ} → n ≡ count → length xs ≡ count → (found : Option ℕ)
+    → MatchOption found ((j : ℕ) → 0 ≤ j → j < n → get_or xs j 0 ≡ k → ⊥)
+    (λ i. (0 ≤ i) × (i < n) × (get_or xs i 0 ≡ k) × ((j : ℕ) → 0 ≤ j → j < i → get_or xs j 0 ≡ k → ⊥))
+    → MatchOption found (index_of k xs ≡ count) (λ i. (i ≡ index_of k xs) × (i < count))
+found_place k xs p q None none = index_nowhere k xs (λ j h. none j (omega arith) (omega arith)) ∙ q
+found_place k xs p q (Some i) (low, high, here, before) = (index_first k xs i (omega arith) here (λ j h. before j (omega arith) h), omega arith)
 
 -- a number is in a list where its place is in the list
 pub in_list : (k : ℕ) (xs : List ℕ) → index_of k xs < length xs → is_in k xs ≡ true

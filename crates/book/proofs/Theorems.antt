@@ -11,10 +11,10 @@ use borrow.Author.Tests.{le-leb}
 use Rattle.cie.specs.Scales.{reader_limit}
 use Rattle.endian.specs.Bytes.{little_endian, from_little_endian, part, number_at, bytes_of}
 use Rattle.endian.proofs.Words.{words_none}
-use Rattle.book.specs.Book.{head_length, entry_length, bodies_at, starts_with, contents_of, book_of, count_of, numbers_of, first_body_length}
+use Rattle.book.specs.Book.{head_length, entry_length, bodies_at, starts_with, entries_ok, contents_of, book_of, count_of, numbers_of, first_body_length}
 use Rattle.book.specs.Book.{readings_in, readings_of, is_book}
 use Rattle.book.specs.Claims.{BookOfItsShades, SameShadesSameBook, empty_book, OneEmptyBook, MixedIsNoBook, OtherRowsNoBook, FirstLengthTells}
-use Rattle.book.proofs.Tests.{entries_end, bodies_end}
+use Rattle.book.proofs.Tests.{bodies_all, bodies_end}
 use Rattle.book.proofs.Rules.{rules, last_rule, body_lengths}
 use Rattle.book.proofs.Whole.{book_of_shades}
 
@@ -34,11 +34,10 @@ unfolding number_at from_little_endian part
 none_counted = refl
 
 empty_is_book : (rows : ℕ) → is_book rows empty_book ≡ true
-unfolding readings_in starts_with
+unfolding starts_with entries_ok
 empty_is_book rows =
-    let entries = entries_end rows empty_book head_length 0 (bodies_at 0) 0 (omega arith) in
-    sym (last_rule rows empty_book (sym none_counted) (omega arith) refl (omega arith) (omega arith) (sym entries))
-    ∙ ap not (sym (bodies_end reader_limit rows empty_book (bodies_at 0) 0 (omega arith)))
+    sym (last_rule rows empty_book (sym none_counted) (omega arith) refl (omega arith) (omega arith) refl)
+    ∙ ap not (bodies_all reader_limit rows empty_book 0 ∙ sym (bodies_end reader_limit rows empty_book 0 0 (omega arith)))
 
 no_others : (rows : ℕ) (s : List ℕ) → count_of s ≡ 0 → book_of rows (numbers_of s) (readings_of rows s) ≡ empty_book
 unfolding numbers_of readings_in

@@ -1,17 +1,16 @@
 -- Document 01, "Shade book": what a read at a spacing answers and what it leaves, refusals included. Assumes nothing.
-use Rattle.std.specs.Prelude.{ℕ, not, List, [], ◌∷◌, length, eqb}
+use Rattle.std.specs.Prelude.{ℕ, not, List, [], ◌∷◌, length, eqb, Result, Ok, Err}
+use Rattle.causes.specs.declared.Cause.{Cause}
 use Rattle.causes.specs.declared.Cause.TheVariants.{ShortTable, NotABook, NoSuchShade, UnknownSpacing}
 use Rattle.causes.specs.Causes.{Numbered, accepted, refusal}
 use Rattle.causes.specs.Checks.{Check, check, first_of, unless, numbered}
 use Rattle.cie.specs.Spacing.{unknown_spacing, rows_at}
 use Rattle.book.specs.Book.{numbers_of, is_book, is_in, shade_of}
-use Rattle.book.specs.declared.Found.{Found}
-use Rattle.book.specs.declared.Found.TheVariants.{Read, Refused}
 
 -- what a read answers, in the paper's numbers
-abbrev pub read_answer : Found → Numbered ℕ
-read_answer Read = accepted 0
-read_answer (Refused cause) = refusal cause
+abbrev pub read_answer : Result (Unit {0}) Cause → Numbered ℕ
+read_answer (Ok done) = accepted 0
+read_answer (Err cause) = refusal cause
 
 -- 11 and 12, for a shade of a book with so many rows to a body
 unfoldable pub shade_checks : ℕ → List ℕ → ℕ → List Check

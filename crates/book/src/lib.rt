@@ -9,32 +9,24 @@ ghost use Rattle.book.specs.Reading.{read_answer, found, places_after_read};
 
 use causes::Cause;
 
-// What a read answers: that the places hold the shade's readings, or a cause.
-#[derive(Clone, Copy)]
-pub enum Found {
-    Read,
-    Refused(Cause),
-}
-
 // Reads the shade of a number into as many places as the spacing has rows.
-pub fn read(spacing: u32, book: &[u8], number: u16, places: &mut [u16]) -> Found
+pub fn read(spacing: u32, book: &[u8], number: u16, places: &mut [u16]) -> Result<(), Cause>
     ensures result_value { read_answer result ≡ found spacing book.now number (length places.old) }
     ensures places_after { places.new ≡ places_after_read spacing book.now number places.old }
 {
     if cie::spacing::is_unknown(spacing) {
-        return Found::Refused(Cause::UnknownSpacing);
+        return Err(Cause::UnknownSpacing);
     }
     let rows = cie::spacing::rows_at(spacing);
     if places.len() != rows {
-        return Found::Refused(Cause::ShortTable);
+        return Err(Cause::ShortTable);
     }
     if !reader::is_book(book, rows) {
-        return Found::Refused(Cause::NotABook);
+        return Err(Cause::NotABook);
     }
-    let i = reader::find(book, number);
-    if i >= reader::count(book) {
-        return Found::Refused(Cause::NoSuchShade);
-    }
+    let Some(i) = reader::find(book, number) else {
+        return Err(Cause::NoSuchShade);
+    };
     reader::spectrum_at(book, i, places);
-    Found::Read
+    Ok(())
 }

@@ -1,42 +1,24 @@
 // The reader's parts: whether bytes are a book, and what a book holds.
-ghost use Rattle.std.specs.Prelude.{◌≡◌, true, ◌+◌, ◌≤◌, ◌<◌, length, get_or};
+ghost use Rattle.std.specs.Prelude.{◌≡◌, true, ◌+◌, ◌≤◌, ◌<◌, length, get_or, MatchOption};
 ghost use Rattle.cie.specs.Scales.{any_above, reader_limit};
 ghost use Rattle.cie.specs.Spacing.{most_rows};
 ghost use Rattle.endian.specs.Bytes.{words};
-ghost use Rattle.book.specs.Book.{entry_length, head_length, most_shades, bodies_at, body_length, total, starts_with, entry_ok, entries_ok, count_of, numbers_of, readings_of, readings_in, is_book, Contents, first_body_length, index_of, spectrum_of};
+ghost use Rattle.book.specs.Book.{entry_length, head_length, most_shades, bodies_at, body_length, total, entry_ok, entries_ok, count_of, numbers_of, readings_of, readings_in, is_book, Contents, first_body_length, index_of, spectrum_of};
 
 use super::layout;
 use super::layout::{COUNT, ENTRY, HEAD, MAGIC, MOST_SHADES};
 use cie::spacing::MOST_ROWS;
 use cie::spectrum::READER_LIMIT;
 
-// Whether the bytes begin with a text.
-fn starts_with(s: &[u8], text: &[u8]) -> bool
-    requires { length text.now ≤ length s.now }
-    ensures { result ≡ starts_with text.now s.now }
-{
-    let mut i = 0;
-    while i < text.len() {
-        if s[i] != text[i] {
-            return false;
-        }
-        i += 1;
-    }
-    true
-}
-
 // Whether the entry at a place has a number above the one before it, the body length of the rows, and the offset that is due.
+#[tactic(auto, unfolding(crate::specs::Book::entry_ok))]
 fn entry_right(s: &[u8], rows: usize, at: usize, before: u16, offset: u32) -> bool
     requires { (rows ≤ most_rows) × (at + entry_length ≤ length s.now) }
     ensures { result ≡ entry_ok rows s.now at before offset }
 {
-    if endian::read16(s, at) <= before {
-        return false;
-    }
-    if endian::read16(s, at + 2) as usize != layout::body_length(rows) {
-        return false;
-    }
-    endian::read32(s, at + 4) == offset
+    endian::read16(s, at) > before
+        && endian::read16(s, at + 2) as usize == layout::body_length(rows)
+        && endian::read32(s, at + 4) == offset
 }
 
 // Whether the n entries are right.
@@ -45,18 +27,14 @@ fn entries_right(s: &[u8], rows: usize, n: usize) -> bool
     ensures { result ≡ entries_ok rows s.now head_length 0 (bodies_at n) n }
 {
     let body = layout::body_length(rows);
-    let mut left = n;
-    let mut at: usize = HEAD;
-    let mut before: u16 = 0;
-    let mut offset = HEAD + ENTRY * n;
-    while left > 0 {
-        if !entry_right(s, rows, at, before, offset as u32) {
+    let first = HEAD + ENTRY * n;
+    let mut before = 0;
+    for i in 0..n {
+        let at = HEAD + ENTRY * i;
+        if !entry_right(s, rows, at, before, (first + body * i) as u32) {
             return false;
         }
         before = endian::read16(s, at);
-        at += ENTRY;
-        offset += body;
-        left -= 1;
     }
     true
 }
@@ -77,40 +55,29 @@ fn any_over_bright(s: &[u8], rows: usize, n: usize) -> bool
     ensures { result ≡ any_above reader_limit (readings_in rows s.now n) }
 {
     let body = layout::body_length(rows);
-    let mut left = n;
-    let mut at = HEAD + ENTRY * n;
-    while left > 0 {
-        if body_over_bright(s, rows, at) {
+    let first = HEAD + ENTRY * n;
+    for i in 0..n {
+        if body_over_bright(s, rows, first + body * i) {
             return true;
         }
-        at += body;
-        left -= 1;
     }
     false
 }
 
 // Whether the bytes are a book, with so many rows to a body.
+#[tactic(auto, using(crate::proofs::Tests::starts_same), unfolding(crate::specs::Book::is_book))]
 pub fn is_book(s: &[u8], rows: usize) -> bool
     requires { rows ≤ most_rows }
     ensures { result ≡ is_book rows s.now }
 {
-    if s.len() < HEAD {
-        return false;
-    }
-    if !starts_with(s, &MAGIC) {
+    if s.len() < HEAD || !s.starts_with(&MAGIC) {
         return false;
     }
     let n = endian::read16(s, COUNT) as usize;
-    if n > MOST_SHADES {
+    if n > MOST_SHADES || s.len() != layout::total(rows, n) {
         return false;
     }
-    if s.len() != layout::total(rows, n) {
-        return false;
-    }
-    if !entries_right(s, rows, n) {
-        return false;
-    }
-    !any_over_bright(s, rows, n)
+    entries_right(s, rows, n) && !any_over_bright(s, rows, n)
 }
 
 // The body length that the first entry names; 0 where the bytes end before that entry does.
@@ -122,6 +89,8 @@ pub fn first_body_length(s: &[u8]) -> u16
     }
     endian::read16(s, HEAD + 2)
 }
+
+// What follows stays functions of bytes: a type of checked books would ask more than `count`, `number_at` and `find` do, which need `Contents` alone.
 
 // How many shades a book has.
 pub fn count(s: &[u8]) -> usize
@@ -149,18 +118,11 @@ pub fn spectrum_at(s: &[u8], i: usize, places: &mut [u16])
     endian::read_words(s, first + body * i, places);
 }
 
-// The place of a number among a book's shades, from 0; their count where it is not among them.
-pub fn find(s: &[u8], number: u16) -> usize
+// The place of a number among a book's shades, from 0; none where it is not among them.
+pub fn find(s: &[u8], number: u16) -> Option<usize>
     requires { Contents s.now }
-    ensures { result ≡ index_of number (numbers_of s.now) }
+    ensures { let place = index_of number (numbers_of s.now) in
+        MatchOption result (place ≡ count_of s.now) (λ i. (i ≡ place) × (i < count_of s.now)) }
 {
-    let n = count(s);
-    let mut i = 0;
-    while i < n {
-        if number_at(s, i) == number {
-            return i;
-        }
-        i += 1;
-    }
-    n
+    (0..count(s)).find(|i| number_at(s, *i) == number)
 }

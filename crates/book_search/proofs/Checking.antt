@@ -7,7 +7,8 @@ use lib.Dec.{eqb}
 use borrow.Author.Tests.{eq-eqb, ne_eqb}
 use Rattle.causes.specs.declared.Cause.{Cause}
 use Rattle.causes.specs.declared.Cause.TheVariants.{NoConditions, NotABook, EmptyLook}
-use Rattle.causes.specs.Causes.{accepted, refused, refusal}
+use Rattle.std.specs.Prelude.{Result, Ok, Err}
+use Rattle.causes.specs.Causes.{accepted, refused, refusal, answer_of}
 use Rattle.causes.specs.Checks.{Check, check, first_of}
 use Rattle.causes.proofs.Checks.{first_fires, first_passes, first_ends, first_because, first_clear, refuses, accepts}
 use Rattle.cie.specs.declared.Colour.{Colour}
@@ -15,10 +16,8 @@ use Rattle.cie.specs.declared.Sums.{Sums}
 use Rattle.cie.specs.Scales.{frame_limit}
 use Rattle.cie.specs.Colour.{colour_of}
 use Rattle.conditions.specs.declared.Conditions.{Conditions}
-use Rattle.conditions.specs.declared.measure.Measured.{Measured}
-use Rattle.conditions.specs.declared.measure.Measured.TheVariants.{Whole, Refused}
 use Rattle.conditions.specs.Checks.{spectrum_checks}
-use Rattle.conditions.specs.Measure.{measure_answer, measured_by, colour_under}
+use Rattle.conditions.specs.Measure.{measured_by, colour_under}
 use Rattle.conditions.proofs.Measuring.{measured_refused, measured_whole}
 use Rattle.book.specs.Book.{count_of, is_book}
 use Rattle.nearest.specs.Rule.{NearestOutcome, answered, nearest}
@@ -49,14 +48,14 @@ module _ (c : Conditions) (budget : ℕ) (swatch book : List ℕ) where
   past : first_of (search_checks true c.rows budget swatch book) ≡ first_of (measuring ++ behind)
   past = first_passes _ _ _ refl
 
-  module _ {m : Measured} (e : measure_answer m ≡ measured_by frame_limit c.rows c.x c.y c.z swatch) where
-    pub search_unmeasured : {cause : Cause} → m ≡ Refused cause → searched_under c true budget swatch book ≡ refusal cause
+  module _ {m : Result Sums Cause} (e : answer_of m ≡ measured_by frame_limit c.rows c.x c.y c.z swatch) where
+    pub search_unmeasured : {cause : Cause} → m ≡ Err cause → searched_under c true budget swatch book ≡ refusal cause
     unfolding searched_under
     search_unmeasured told =
         let w = measured_refused frame_limit c.rows _ _ _ _ e told in
         refuses _ _ _ _ (past ∙ first_because measuring behind _ w.1) ∙ ap (λ (n : ℕ). refused n) w.2
 
-    module _ {sums : Sums} (told : m ≡ Whole sums) where
+    module _ {sums : Sums} (told : m ≡ Ok sums) where
       measured : first_of (search_checks true c.rows budget swatch book) ≡ first_of behind
       measured = past ∙ first_clear measuring behind (measured_whole frame_limit c.rows _ _ _ _ e told).0
 

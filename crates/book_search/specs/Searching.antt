@@ -1,6 +1,7 @@
 -- Document 02, "Nearest shade in the time there is": the checks of a search, and what it answers under conditions, refusals included.
 -- Assumes nothing.
-use Rattle.std.specs.Prelude.{◌≡◌, Bool, true, false, not, ◌||◌, List, [], ◌∷◌, ◌++◌, ℕ, ◌≤◌, eqb}
+use Rattle.std.specs.Prelude.{◌≡◌, Bool, true, false, not, ◌||◌, List, [], ◌∷◌, ◌++◌, ℕ, ◌≤◌, eqb, Result, Ok, Err}
+use Rattle.causes.specs.declared.Cause.{Cause}
 use Rattle.causes.specs.declared.Cause.TheVariants.{NoConditions, NotABook, EmptyLook}
 use Rattle.causes.specs.Causes.{Numbered, accepted, refused, refusal}
 use Rattle.causes.specs.Checks.{Check, check, first_of, numbered}
@@ -16,8 +17,6 @@ use Rattle.nearest.specs.declared.Search.{Search}
 use Rattle.nearest.specs.Rule.{NearestOutcome}
 use Rattle.nearest.specs.Order.{number_in, keys_of, gap_of}
 use Rattle.book_search.specs.declared.NearestAnswer.{NearestAnswer}
-use Rattle.book_search.specs.declared.SearchResult.{SearchResult}
-use Rattle.book_search.specs.declared.SearchResult.TheVariants.{Found, Refused}
 use Rattle.book_search.specs.Shades.{book_beside, nearest_by}
 
 -- 20, empty look: "book without shades or budget 0"
@@ -35,9 +34,9 @@ search_checks opened rows budget swatch book =
 abbrev pub nearest_outcome : NearestAnswer → NearestOutcome
 nearest_outcome a = record { count = a.count; shade = a.shade; gap = a.gap.0; e = a.e.0 }
 
-abbrev pub search_answer : SearchResult → Numbered NearestOutcome
-search_answer (Found a) = accepted (nearest_outcome a)
-search_answer (Refused cause) = refusal cause
+abbrev pub search_answer : Result NearestAnswer Cause → Numbered NearestOutcome
+search_answer (Ok a) = accepted (nearest_outcome a)
+search_answer (Err cause) = refusal cause
 
 -- what a search finds under conditions
 unfoldable pub searched_under : Conditions → Bool → ℕ → List ℕ → List ℕ → Numbered NearestOutcome

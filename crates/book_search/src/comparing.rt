@@ -2,8 +2,8 @@
 ghost use Rattle.std.specs.Prelude.{◌≡◌, true, ◌≤◌, ◌<◌, length};
 ghost use Rattle.cie.specs.Colour.{lab_difference};
 ghost use Rattle.cie.specs.Sizes.{Sized};
-ghost use Rattle.conditions.specs.Conditions.{conditions_by, Sound};
 ghost use Rattle.conditions.specs.Measure.{colour_under};
+ghost use Rattle.conditions.specs.Lent.{conditions_lent};
 ghost use Rattle.book.specs.Book.{count_of, is_book};
 ghost use Rattle.shades.specs.Shades.{shade_under};
 ghost use Rattle.nearest.specs.Rule.{answered, nearest};
@@ -13,26 +13,16 @@ ghost use Rattle.book_search.specs.Searching.{nearest_outcome, end_of, Searchabl
 use crate::NearestAnswer;
 use cie::{Colour, LabUnits};
 use colour::difference;
-use colour::white::WhitePoint;
+use conditions::lent::Lent;
 use nearest::Search;
 
 // E of a swatch's colour and a book's i-th shade, from 0: one full comparison.
-fn compare<'a>(
-    swatch: Colour,
-    book: &[u8],
-    i: usize,
-    places: &mut [u16],
-    white: WhitePoint,
-    x: &'a [u64],
-    y: &'a [u64],
-    z: &'a [u64],
-) -> u32
-    requires { Sound (conditions_by (length places.old) x.now y.now z.now white) × Sized swatch × (is_book (length places.old) book.now ≡ true) × (i < count_of book.now) }
-    ensures { result ≡ (lab_difference swatch (shade_under (conditions_by (length places.old) x.now y.now z.now white) book.now i)).0 }
+fn compare(swatch: Colour, book: &[u8], i: usize, places: &mut [u16], lent: Lent<'_>) -> u32
+    requires { Sized swatch × (length places.old ≡ lent.rows) × (is_book lent.rows book.now ≡ true) × (i < count_of book.now) }
+    ensures { result ≡ (lab_difference swatch (shade_under (conditions_lent lent.entry) book.now i)).0 }
 {
-    let colour = shades::colour_under(book, i, places, white, x, y, z);
-    let e = difference::lab_difference(swatch, colour);
-    e.0
+    let colour = shades::colour_under(book, i, places, lent);
+    difference::lab_difference(swatch, colour).0
 }
 
 // What a search answers that goes on no more.
@@ -48,27 +38,24 @@ fn answer(search: Search, keys: &[u64]) -> NearestAnswer
 }
 
 // The search in the order of the keys.
-pub fn searched<'a>(
+pub fn searched(
     budget: u32,
     swatch: Colour,
     book: &[u8],
     keys: &[u64],
     places: &mut [u16],
-    white: WhitePoint,
-    x: &'a [u64],
-    y: &'a [u64],
-    z: &'a [u64],
+    lent: Lent<'_>,
 ) -> NearestAnswer
-    requires { Searchable budget swatch book.now keys.now (conditions_by (length places.old) x.now y.now z.now white) }
-    ensures result_value { nearest_outcome result ≡ answered (nearest budget (book_beside (colour_under (conditions_by (length places.old) x.now y.now z.now white)) (length places.old) swatch book.now)) }
+    requires { (length places.old ≡ lent.rows) × Searchable budget swatch book.now keys.now (conditions_lent lent) }
+    ensures result_value { nearest_outcome result ≡ answered (nearest budget (book_beside (colour_under (conditions_lent lent.entry)) lent.entry.rows swatch book.now)) }
     ensures count_le_budget { result.count ≤ budget }
 {
-    let first = nearest::first(keys);
-    let e = compare(swatch, book, first, places, white, x, y, z);
+    let first = nearest::first(keys).unwrap();
+    let e = compare(swatch, book, first, places, lent);
     let mut search = Search::begun(keys, first, e);
-    while search.goes_on(budget, keys) {
-        let e = compare(swatch, book, search.next, places, white, x, y, z);
-        search = search.compared(keys, e);
+    while let Some(i) = search.turn(budget, keys) {
+        let e = compare(swatch, book, i, places, lent);
+        search = search.compared(keys, i, e);
     }
     answer(search, keys)
 }

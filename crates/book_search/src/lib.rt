@@ -3,7 +3,8 @@
 
 ghost use Rattle.std.specs.Prelude.{◌≡◌, true, false, ◌≤◌, length};
 ghost use Rattle.cie.specs.Sizes.{Sized};
-ghost use Rattle.conditions.specs.Conditions.{conditions_by, Sound};
+ghost use Rattle.conditions.specs.Conditions.{Sound};
+ghost use Rattle.conditions.specs.Lent.{conditions_lent};
 ghost use Rattle.conditions.specs.Measure.{colour_under};
 ghost use Rattle.book.specs.Book.{count_of, is_book, Contents};
 ghost use Rattle.nearest.specs.Rule.{answered, nearest};
@@ -16,15 +17,14 @@ use causes::Cause;
 use cie::spacing::MOST_ROWS;
 use cie::spectrum::FRAME_LIMIT;
 use cie::{Colour, LabUnits};
-use colour::white::WhitePoint;
-use conditions::measure::Measured;
+use conditions::lent::Lent;
 use conditions::{Conditions, measure};
 
 mod comparing;
 mod keys;
 
 // What a search answers: how many full comparisons were made, the best shade's number, the gap, and the best E.
-#[derive(Clone, Copy)]
+#[derive(Clone, Copy, Debug, PartialEq, Eq)]
 pub struct NearestAnswer {
     pub count: u32,
     pub shade: u16,
@@ -32,57 +32,35 @@ pub struct NearestAnswer {
     pub e: LabUnits,
 }
 
-// A search's answer, or the cause against it.
-#[derive(Clone, Copy)]
-pub enum SearchResult {
-    Found(NearestAnswer),
-    Refused(Cause),
-}
-
 // Whether there is nothing to look at: no shade in the book, or a budget of 0.
 fn is_empty_look(budget: u32, book: &[u8]) -> bool
     requires { Contents book.now }
     ensures { result ≡ empty_look budget book.now }
 {
-    if reader::count(book) == 0 {
-        return true;
-    }
-    budget == 0
+    reader::count(book) == 0 || budget == 0
 }
 
 // The nearest shade to a swatch's colour, with a place lent for each shade's key and for each reading of a shade.
-fn nearest_by<'a>(
+fn nearest_by(
     budget: u32,
     swatch: Colour,
     book: &[u8],
     keys: &mut [u64],
     places: &mut [u16],
-    white: WhitePoint,
-    x: &'a [u64],
-    y: &'a [u64],
-    z: &'a [u64],
+    lent: Lent<'_>,
 ) -> NearestAnswer
-    requires { Sound (conditions_by (length places.old) x.now y.now z.now white) × Sized swatch × (is_book (length places.old) book.now ≡ true) × (empty_look budget book.now ≡ false) × (length keys.old ≡ count_of book.now) }
-    ensures result_value { nearest_outcome result ≡ answered (nearest budget (book_beside (colour_under (conditions_by (length places.old) x.now y.now z.now white)) (length places.old) swatch book.now)) }
+    requires { Sized swatch × (is_book lent.rows book.now ≡ true) × (empty_look budget book.now ≡ false) × (length keys.old ≡ count_of book.now) × (length places.old ≡ lent.rows) }
+    ensures result_value { nearest_outcome result ≡ answered (nearest budget (book_beside (colour_under (conditions_lent lent.entry)) lent.entry.rows swatch book.now)) }
     ensures count_le_budget { result.count ≤ budget }
 {
-    keys::put_keys(keys, swatch.l, book, places, white.sums.y, y);
-    comparing::searched(budget, swatch, book, keys, places, white, x, y, z)
+    keys::put_keys(keys, swatch.l, book, places, lent);
+    comparing::searched(budget, swatch, book, keys, places, lent)
 }
 
 // The nearest shade to a swatch's colour, in fixed memory.
-fn nearest_to<'a>(
-    budget: u32,
-    swatch: Colour,
-    book: &[u8],
-    rows: usize,
-    white: WhitePoint,
-    x: &'a [u64],
-    y: &'a [u64],
-    z: &'a [u64],
-) -> NearestAnswer
-    requires { Sound (conditions_by rows x.now y.now z.now white) × Sized swatch × (is_book rows book.now ≡ true) × (empty_look budget book.now ≡ false) }
-    ensures result_value { nearest_outcome result ≡ answered (nearest budget (book_beside (colour_under (conditions_by rows x.now y.now z.now white)) rows swatch book.now)) }
+fn nearest_to(budget: u32, swatch: Colour, book: &[u8], lent: Lent<'_>) -> NearestAnswer
+    requires { Sized swatch × (is_book lent.rows book.now ≡ true) × (empty_look budget book.now ≡ false) }
+    ensures result_value { nearest_outcome result ≡ answered (nearest budget (book_beside (colour_under (conditions_lent lent.entry)) lent.entry.rows swatch book.now)) }
     ensures count_le_budget { result.count ≤ budget }
 {
     let mut keys = [0u64; MOST_SHADES];
@@ -93,67 +71,49 @@ fn nearest_to<'a>(
         swatch,
         book,
         &mut keys[..n],
-        &mut places[..rows],
-        white,
-        x,
-        y,
-        z,
+        &mut places[..lent.rows],
+        lent,
     )
 }
 
-// A search under opened conditions, which lend their weights.
-fn searched_by<'a>(
+// A search under opened conditions, which are lent.
+fn searched_by(
     budget: u32,
-    rows: usize,
-    white: WhitePoint,
     swatch: &[u16],
     book: &[u8],
-    x: &'a [u64],
-    y: &'a [u64],
-    z: &'a [u64],
-) -> SearchResult
-    requires { Sound (conditions_by rows x.now y.now z.now white) }
-    ensures result_value { search_answer result ≡ searched_under (conditions_by rows x.now y.now z.now white) true budget swatch.now book.now }
+    lent: Lent<'_>,
+) -> Result<NearestAnswer, Cause>
+    ensures result_value { search_answer result ≡ searched_under (conditions_lent lent.entry) true budget swatch.now book.now }
     ensures within_budget { WithinBudget budget (search_answer result) }
 {
-    let measured = measure::measure(swatch, FRAME_LIMIT, rows, x, y, z);
-    let Measured::Whole(sums) = measured else {
-        return SearchResult::Refused(measure::cause_of(measured));
+    let measured = measure::measure(swatch, FRAME_LIMIT, lent.rows, lent.weights);
+    let Ok(sums) = measured else {
+        return Err(measured.unwrap_err());
     };
-    if !reader::is_book(book, rows) {
-        return SearchResult::Refused(Cause::NotABook);
+    if !reader::is_book(book, lent.rows) {
+        return Err(Cause::NotABook);
     }
     if is_empty_look(budget, book) {
-        return SearchResult::Refused(Cause::EmptyLook);
+        return Err(Cause::EmptyLook);
     }
-    let colour = colour::colour_of(sums, white);
-    SearchResult::Found(nearest_to(budget, colour, book, rows, white, x, y, z))
+    let colour = colour::colour_of(sums, lent.white);
+    Ok(nearest_to(budget, colour, book, lent))
 }
 
 // Searches a book for the shade nearest to a swatch in CIELAB, with so many full comparisons at most.
 pub fn search(
-    conditions: Conditions,
+    conditions: &Conditions,
     opened: bool,
     budget: u32,
     swatch: &[u16],
     book: &[u8],
-) -> SearchResult
-    requires { Sound conditions }
-    ensures result_value { search_answer result ≡ searched_under conditions opened budget swatch.now book.now }
+) -> Result<NearestAnswer, Cause>
+    requires { Sound conditions.now }
+    ensures result_value { search_answer result ≡ searched_under conditions.now opened budget swatch.now book.now }
     ensures within_budget { WithinBudget budget (search_answer result) }
 {
     if !opened {
-        return SearchResult::Refused(Cause::NoConditions);
+        return Err(Cause::NoConditions);
     }
-    let white = conditions.white;
-    searched_by(
-        budget,
-        conditions.rows,
-        white,
-        swatch,
-        book,
-        &conditions.x,
-        &conditions.y,
-        &conditions.z,
-    )
+    searched_by(budget, swatch, book, conditions.lend())
 }

@@ -40,37 +40,40 @@ entry_stores rows d at k o {b} q =
     ∙ ap (λ (l : List ℕ). sets d at l) (append_assoc (le16 k) (le16 b) (le32 o))
     ∙ ap (λ (x : ℕ). sets d at (le16 k ++ (le16 x ++ le32 o))) q
 
--- one turn of the loop that stores the entries, and its end; d' is what the entry's stores left
+-- one turn of the loop that stores the entries, and its end; d' is what the entry's stores left, next and due the following entry's place and offset
 pub contents_store : (rows : ℕ) (d : List ℕ) (at i offset : ℕ) (l : List ℕ) → i < length l
-    → {d' : List ℕ} → d' ≡ sets d at (entry_of rows (get_or l i 0) offset) → {b : ℕ} → b ≡ body_length rows
-    → sets d' (at + entry_length) (contents_of rows (offset + b) (drop (i + 1) l)) ≡ sets d at (contents_of rows offset (drop i l))
+    → {d' : List ℕ} → d' ≡ sets d at (entry_of rows (get_or l i 0) offset) → {next due : ℕ} → next ≡ at + entry_length → due ≡ offset + body_length rows
+    → sets d' next (contents_of rows due (drop (i + 1) l)) ≡ sets d at (contents_of rows offset (drop i l))
 unfolding contents_of
-contents_store rows d at i offset l h s {b} q =
+contents_store rows d at i offset l h s p q =
     let e : List ℕ = entry_of rows (get_or l i 0) offset in
-    ap (λ (r : List ℕ). sets r (at + entry_length) (contents_of rows (offset + b) (drop (i + 1) l))) s
-    ∙ sets_then d at entry_length e (contents_of rows (offset + b) (drop (i + 1) l)) (length-entry_of rows (get_or l i 0) offset)
-    ∙ ap (λ (x : ℕ). sets d at (e ++ contents_of rows (offset + x) (drop (i + 1) l))) q
-    ∙ rw (drop-cons l i 0 h, add-one)
+    let rest : List ℕ = contents_of rows (offset + body_length rows) (drop (i + 1) l) in
+    rw (p, q)
+    (ap (λ (r : List ℕ). sets r (at + entry_length) rest) s
+    ∙ sets_then d at entry_length e rest (length-entry_of rows (get_or l i 0) offset)
+    ∙ rw (drop-cons l i 0 h, add-one))
 
 pub contents_stored : (rows : ℕ) (d : List ℕ) (at i offset : ℕ) (l : List ℕ) → length l ≤ i → sets d at (contents_of rows offset (drop i l)) ≡ d
 unfolding contents_of
 contents_stored rows d at i offset l h = rw (drop_of_length-le l h)
 
--- one turn of the loop that lends the rest of the buffer to the body's writer: m is the code's `to - from`, k the rest's length, ys what the
--- writer left
+-- one turn of the loop that lends the rest of the buffer to the body's writer: m is the code's number of readings, k the rest's length, ys what
+-- the writer left, next and more the following body's place and its first reading
 pub bodies_store : (rows : ℕ) (d : List ℕ) (at from m k : ℕ) (l ys : List ℕ)
     → at ≤ length d → from + rows ≤ length l → m ≡ rows → length d - at ≡ k → ys ≡ sets (take k (drop at d)) 0 (bytes_of (take m (drop from l)))
-    → {b : ℕ} → b ≡ body_length rows
-    → sets (take at d ++ (ys ++ drop k (drop at d))) (at + b) (bytes_of (drop (from + rows) l)) ≡ sets d at (bytes_of (drop from l))
-bodies_store rows d at from m k l ys h f e g s {b} q =
+    → {next more : ℕ} → next ≡ at + body_length rows → more ≡ from + rows
+    → sets (take at d ++ (ys ++ drop k (drop at d))) next (bytes_of (drop more l)) ≡ sets d at (bytes_of (drop from l))
+bodies_store rows d at from m k l ys h f e g s p q =
+    let b = body_length rows in
     let body : List ℕ = bytes_of (take m (drop from l)) in
     let rest : List ℕ = bytes_of (drop (from + rows) l) in
     let n : length (take m (drop from l)) ≡ rows = length-take-le m (drop from l) (omega (arith, length-drop from l)) ∙ e in
-    ap (λ (r : List ℕ). sets (take at d ++ (r ++ drop k (drop at d))) (at + b) rest) s
+    rw (p, q)
+    (ap (λ (r : List ℕ). sets (take at d ++ (r ++ drop k (drop at d))) (at + b) rest) s
     ∙ ap (λ (r : List ℕ). sets r (at + b) rest) (sets_part d at k body h g)
     ∙ sets_then d at b body rest (omega (arith, length-bytes_of (take m (drop from l))))
     ∙ ap (λ (r : ℕ). sets d at (bytes_of (take r (drop from l)) ++ rest)) e
-    ∙ ap (λ (r : List ℕ). sets d at r) (sym (bytes_of-split rows from l))
+    ∙ ap (λ (r : List ℕ). sets d at r) (sym (bytes_of-split rows from l)))
 
 -- the stores of a book
 pub book_stores : (rows : ℕ) (b ns rs : List ℕ)

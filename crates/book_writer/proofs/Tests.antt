@@ -1,35 +1,19 @@
 -- The tests of the shades to be written: what is left, tested from here, decides as the whole does. Assumes nothing.
-use mathlib.Core.Path.{◌≡◌, refl, sym, ap, ◌∙◌}
-use mathlib.Core.Bool.{Bool, true, false, ◌&&◌}
-use Prim.Native.Nat.{ℕ, ◌+◌, ◌*◌, ◌/◌, ◌%◌, ◌≤◌, ◌<◌}
-use native.Mathlib.Omega.{arith}
-use native.Mathlib.Nat.{div-add-mod, mul-mod_right, mul-div_cancel_left}
+use mathlib.Core.Path.{◌≡◌, sym, ap, ◌∙◌}
+use mathlib.Core.Bool.{true, false, ◌&&◌}
+use Prim.Native.Nat.{ℕ, ◌+◌, ◌*◌, ◌%◌, ◌≤◌, ◌<◌}
+use native.Mathlib.Nat.{mul-mod_right}
 use native.Mathlib.Numerals.{add-one}
 use mathlib.Core.List.{List}
 use lib.ListN.{length, get_or, drop, drop_of_length-le}
 use lib.Seq.{drop-cons}
 use lib.Dec.{ltb, eqb}
-use borrow.Author.Tests.{lt-ltb, le-ltb, eq-eqb, ne_eqb, eqb-true, eqb-false}
+use borrow.Author.Tests.{lt-ltb, le-ltb, ne_eqb}
 use Rattle.book.specs.Book.{rising}
 
--- tests of equality that come to the same
-pub eqb_same : (a b c d : ℕ) → (a ≡ b → c ≡ d) → (c ≡ d → a ≡ b) → eqb a b ≡ eqb c d
-eqb_same a b c d f g = go (eqb c d) refl
-  where
-    go : (t : Bool) → eqb c d ≡ t → eqb a b ≡ t
-    go true e = eq-eqb a b (g (eqb-true c d e))
-    go false e = ne_eqb a b (λ h. eqb-false c d e (f h))
-
--- k readings are so many for each of n shades where the rows divide them and the quotient is n
-module _ (rows n k : ℕ) where
-  pub not_filled : (k % rows ≡ 0 → ⊥) → false ≡ eqb k (rows * n)
-  not_filled h = sym (ne_eqb k (rows * n) (λ e. h (ap (λ (x : ℕ). x % rows) e ∙ mul-mod_right rows n)))
-
-  pub filled_by : 0 < rows → k % rows ≡ 0 → eqb (k / rows) n ≡ eqb k (rows * n)
-  filled_by some h =
-      eqb_same (k / rows) n k (rows * n)
-      (λ e. omega (arith, div-add-mod k rows, ap (λ (x : ℕ). rows * x) e))
-      (λ e. ap (λ (x : ℕ). x / rows) e ∙ mul-div_cancel_left n some)
+-- k readings are not so many for each of n shades where the rows do not divide them
+pub not_filled : (rows n k : ℕ) → (k % rows ≡ 0 → ⊥) → false ≡ eqb k (rows * n)
+not_filled rows n k h = sym (ne_eqb k (rows * n) (λ e. h (ap (λ (x : ℕ). x % rows) e ∙ mul-mod_right rows n)))
 
 -- numbers that rise
 module _ (l : List ℕ) (i before : ℕ) (h : i < length l) where

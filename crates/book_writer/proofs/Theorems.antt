@@ -9,7 +9,7 @@ use lib.ListN.{length, get_or, drop}
 use lib.Seq.{take_at}
 use borrow.Author.Tests.{eqb-true, ltb-false, not-false}
 use Rattle.causes.specs.Causes.{accepted}
-use Rattle.causes.specs.declared.Checked.TheVariants.{Clear}
+use Rattle.std.specs.Prelude.{Ok}
 use Rattle.causes.specs.Checks.{first_of}
 use Rattle.causes.proofs.Checks.{clear_at, accepts, numbered_accepted}
 use Rattle.cie.specs.Scales.{reader_limit, frame_limit}
@@ -27,7 +27,7 @@ use Rattle.book_writer.proofs.Back.{count_back}
 use Rattle.book_writer.proofs.Shades.{Shades, makes_book, numbers_back, readings_back, place_back}
 
 -- what the checks leave
-shades : {limit : ℕ} (spacing : ℕ) (ns rs : List ℕ) (room : ℕ) → AllBelow 65536 ns → first_of (write_checks limit spacing ns rs room) ≡ Clear
+shades : {limit : ℕ} (spacing : ℕ) (ns rs : List ℕ) (room : ℕ) → AllBelow 65536 ns → first_of (write_checks limit spacing ns rs room) ≡ Ok tt
     → limit ≤ reader_limit → (unknown_spacing spacing ≡ false) × Shades (rows_at spacing) ns rs
 unfolding write_checks
 shades spacing ns rs room small e h = (
@@ -58,7 +58,7 @@ module _ (spacing : ℕ) (known : unknown_spacing spacing ≡ false) (ns rs : Li
       let number = get_or ns i 0 in
       let at = place_back rows fits ns rs h i k in
       let clear = right_places spacing s number (length places) known {rows = rows} refl e
-      ∙ has_shade rows s number is at (sym (count_back rows ns rs h.few)) k in
+      ∙ has_shade rows s number is (at, omega (arith, count_back rows ns rs h.few)) in
       read_accepted spacing s number places clear {rows = rows} refl at (ap (λ (l : List ℕ). spectrum_of rows l i) (sym same)) in
       record {
         book = is;

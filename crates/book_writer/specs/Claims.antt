@@ -1,7 +1,7 @@
 -- What a write promises to a later read, at each spacing, and what holds of books already written; proofs/Theorems.antt proves both.
 -- Assumes nothing.
 use Rattle.std.specs.Prelude.{ℕ, ◌<◌, ◌≡◌, true, List, length, get_or, take}
-use Rattle.causes.specs.declared.Checked.TheVariants.{Clear}
+use Rattle.std.specs.Prelude.{Ok}
 use Rattle.causes.specs.Causes.{accepted}
 use Rattle.causes.specs.Checks.{first_of}
 use Rattle.cie.specs.Scales.{reader_limit}
@@ -31,5 +31,5 @@ WrittenReadsBack spacing =
 -- as these shades.
 abbrev pub StillReadsBack : ℕ → Type 0
 StillReadsBack spacing =
-    (numbers readings : List ℕ) (room : ℕ) → AllBelow 65536 numbers → first_of (write_checks reader_limit spacing numbers readings room) ≡ Clear
+    (numbers readings : List ℕ) (room : ℕ) → AllBelow 65536 numbers → first_of (write_checks reader_limit spacing numbers readings room) ≡ Ok tt
     → ReadsBack spacing numbers readings (book_of (rows_at spacing) numbers readings)

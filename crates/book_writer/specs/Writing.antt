@@ -1,18 +1,11 @@
 -- Document 01, "Shade book": what a write at a spacing answers and what it leaves, refusals included. Assumes nothing.
 use Rattle.std.specs.Prelude.{ℕ, ◌*◌, not, List, [], ◌∷◌, ◌++◌, length, drop, ltb, eqb}
 use Rattle.causes.specs.declared.Cause.TheVariants.{ShortTable, OverBright, TooManyShades, OutOfOrder, ShortBuffer, UnknownSpacing}
-use Rattle.causes.specs.Causes.{Numbered, accepted, refusal}
+use Rattle.causes.specs.Causes.{Numbered}
 use Rattle.causes.specs.Checks.{Check, check, first_of, unless, numbered}
 use Rattle.cie.specs.Scales.{any_above, frame_limit}
 use Rattle.cie.specs.Spacing.{unknown_spacing, rows_at}
 use Rattle.book.specs.Book.{most_shades, total, rising, book_of}
-use Rattle.book_writer.specs.declared.Written.{Written}
-use Rattle.book_writer.specs.declared.Written.TheVariants.{Total, Refused}
-
--- what a write answers, in the paper's numbers
-abbrev pub write_answer : Written → Numbered ℕ
-write_answer (Total n) = accepted n
-write_answer (Refused cause) = refusal cause
 
 -- "Write (numbers, spectra, buffer): 1, 13, 14, 2, 15."; before them 17, "checked first in every call that names one"; 2 goes by the limit
 unfoldable pub write_checks : ℕ → ℕ → List ℕ → List ℕ → ℕ → List Check

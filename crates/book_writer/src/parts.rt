@@ -14,25 +14,19 @@ pub fn fills(spectra: &[u16], rows: usize, n: usize) -> bool
     requires { 0 < rows }
     ensures { result ≡ eqb (length spectra.now) (rows * n) }
 {
-    if spectra.len() % rows != 0 {
-        return false;
-    }
-    spectra.len() / rows == n
+    spectra.len() % rows == 0 && spectra.len() / rows == n
 }
 
 // Whether the numbers rise strictly, from at least 1.
 pub fn is_rising(numbers: &[u16]) -> bool
     ensures { result ≡ rising 0 numbers.now }
 {
-    let mut before: u16 = 0;
-    let mut i = 0;
-    while i < numbers.len() {
-        let number = numbers[i];
-        if number <= before {
+    let mut before = 0;
+    for number in numbers {
+        if *number <= before {
             return false;
         }
-        before = number;
-        i += 1;
+        before = *number;
     }
     true
 }
@@ -41,10 +35,7 @@ fn put_magic(buffer: &mut [u8])
     requires { length magic ≤ length buffer.old }
     ensures { buffer.new ≡ sets buffer.old 0 magic }
 {
-    buffer[0] = MAGIC[0];
-    buffer[1] = MAGIC[1];
-    buffer[2] = MAGIC[2];
-    buffer[3] = MAGIC[3];
+    buffer[..COUNT].copy_from_slice(&MAGIC);
 }
 
 // The entries.
@@ -53,14 +44,15 @@ fn put_contents(buffer: &mut [u8], rows: usize, numbers: &[u16])
     ensures { buffer.new ≡ sets buffer.old head_length (contents_of rows (bodies_at (length numbers.now)) numbers.now) }
 {
     let body = layout::body_length(rows);
-    let mut i = 0;
-    let mut at: usize = HEAD;
-    let mut offset = HEAD + ENTRY * numbers.len();
-    while i < numbers.len() {
-        entry::put_entry(buffer, rows, at, numbers[i], offset as u32);
-        at += ENTRY;
-        offset += body;
-        i += 1;
+    let first = HEAD + ENTRY * numbers.len();
+    for (i, number) in numbers.iter().enumerate() {
+        entry::put_entry(
+            buffer,
+            rows,
+            HEAD + ENTRY * i,
+            *number,
+            (first + body * i) as u32,
+        );
     }
 }
 
@@ -70,15 +62,11 @@ fn put_bodies(buffer: &mut [u8], rows: usize, spectra: &[u16], n: usize)
     ensures { buffer.new ≡ sets buffer.old (bodies_at n) (bytes_of spectra.now) }
 {
     let body = layout::body_length(rows);
-    let mut i = 0;
-    let mut from = 0;
-    let mut at = HEAD + ENTRY * n;
-    while i < n {
-        let to = from + rows;
-        endian::write_words(&mut buffer[at..], &spectra[from..to]);
-        at += body;
-        from = to;
-        i += 1;
+    let first = HEAD + ENTRY * n;
+    for i in 0..n {
+        let at = first + body * i;
+        let from = rows * i;
+        endian::write_words(&mut buffer[at..], &spectra[from..from + rows]);
     }
 }
 

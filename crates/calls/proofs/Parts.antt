@@ -1,39 +1,27 @@
--- A part of a slice: the code's test is that of the definition, so what it lends is that part, or nothing. Assumes nothing.
-use mathlib.Core.Path.{◌≡◌, ap, subst, ◌∙◌}
-use mathlib.Core.List.{List, []}
-use Prim.Native.Nat.{ℕ, ◌+◌, ◌≤◌, ◌<◌}
-use native.Mathlib.Nat.{add-sub_cancel_left}
-use native.Mathlib.Omega.{arith}
+-- A part of a slice: what reading it gives, or an empty slice in its place, is the definition's. Assumes nothing.
+use Rattle.std.proofs.Common.{◌≡◌, ℕ, ◌≤◌, ◌<◌, ◌+◌, ◌-◌, List, [], take, drop, length, ap, ◌∙◌, arith, inl, inr, Option, Some, None, unwrap_or}
+use Rattle.std.proofs.Math.Nat.{add-sub_cancel_left}
+use Rattle.std.specs.Borrow.{Bor}
+use Rattle.std.specs.Slice.{IsGetRangeResult}
 use borrow.Author.Tests.{le-leb, lt-leb}
-use lib.ListN.{length, take, drop}
-use Rattle.calls.specs.Records.{part_of, Lies}
+use Rattle.calls.specs.Records.{part_of}
 
-module _ (slice : List ℕ) (start count : ℕ) where
-  part_inside : start + count ≤ length slice → take count (drop start slice) ≡ part_of slice start count
+module _ {A : Type 0} (slice : List A) (start count : ℕ) where
+  part_inside : start + count ≤ length slice → take ((start + count) - start) (drop start slice) ≡ part_of slice start count
   unfolding part_of
-  part_inside h = simp (le-leb _ _ h)
+  part_inside h = ap (λ (n : ℕ). take n (drop start slice)) (add-sub_cancel_left start count) ∙ simp (le-leb _ _ h)
 
   part_outside : length slice < start + count → [] ≡ part_of slice start count
   unfolding part_of
   part_outside h = simp (lt-leb _ _ h)
 
-module _ (start count room : ℕ) where
-  inside : start + count ≤ room → Lies start count room start (start + count)
-  inside h =
-      record {
-        order = omega arith;
-        within = h;
-        between = λ slice e.
-            ap (λ (n : ℕ). take n (drop start slice)) (add-sub_cancel_left start count) ∙ part_inside slice start count (omega arith);
-      }
-
-  outside : room < start + count → Lies start count room 0 0
-  outside h = record { order = omega arith; within = omega arith; between = λ slice e. part_outside slice start count (omega arith) }
+  part_lent : (o : Option (Bor (List A))) → IsGetRangeResult slice start (start + count) o → (d : Bor (List A)) → d.now ≡ [] →
+      (unwrap_or o d).now ≡ part_of slice start count
+  part_lent None h d e = elim h.0 [ inl k ↦ absurd (omega arith) | inr k ↦ e ∙ part_outside k ]
+  part_lent (Some x) h d e = h.0.2 ∙ part_inside h.0.1
 
 -- the two words, as they are read
-module _ {start count room a b : ℕ} (p : a ≡ start) (q : b ≡ count) where
-  pub stands_inside : a + b ≤ room → Lies start count room a (a + b)
-  stands_inside h = subst (λ (n : ℕ). Lies n count room a (a + b)) p (subst (λ (n : ℕ). Lies a n room a (a + b)) q (inside a b room h))
-
-  pub stands_outside : room < a + b → Lies start count room 0 0
-  stands_outside h = outside start count room (omega arith)
+pub part_read : {A : Type 0} (slice : List A) {start count a b : ℕ} (o : Option (Bor (List A))) {r : Bor (List A)} (d : Bor (List A)) →
+    IsGetRangeResult slice a (a + b) o → r ≡ unwrap_or o d → d.now ≡ [] → a ≡ start → b ≡ count → r.now ≡ part_of slice start count
+part_read {A} slice {a = a} {b = b} o d h e k p q =
+    ap (λ (x : Bor (List A)). x.now) e ∙ part_lent slice a b o h d k ∙ (λ i. part_of slice (p i) (q i))

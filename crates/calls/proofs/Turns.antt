@@ -56,35 +56,47 @@ module _ (records : List ℕ) (slices : Slices) where
   rest_lent : (at : ℕ) → take (length records - at) (drop at records) ≡ drop at records
   rest_lent at = take_all (length records - at) (drop at records) (omega (arith, length-drop at records))
 
-  -- where a run stands: some ledger that the session stands for, whose answers to the calls left, stored from here, give those to the whole list
-  -- stored into the buffer as it was
+  -- where a run stands after i calls: some ledger that the session stands for, whose answers to the calls left, stored from here, give those to the
+  -- whole list stored into the buffer as it was
   module _ (before : List ℕ) where
-    pub record Along (from to left : ℕ) (buffer : List ℕ) (s : Session) : Type 0 where
+    pub record Along (i : ℕ) (buffer : List ℕ) (s : Session) : Type 0 where
       pub valid : Valid s
       pub ledger : Ledger
       pub stands : s ≡ session_of ledger
-      pub rest : sets buffer to (answers_from ledger left from) ≡ sets before 0 (answers_from empty_ledger (call_count records) 0)
+      pub rest : sets buffer (i * answer_words) (answers_from ledger (call_count records - i) (i * call_words))
+          ≡ sets before 0 (answers_from empty_ledger (call_count records) 0)
 
-    pub along_start : {s : Session} → s ≡ fresh_session → Valid s → Along 0 0 (call_count records) before s
-    along_start e v = record { valid = v; ledger = empty_ledger; stands = e; rest = refl }
+    pub along_start : {s : Session} → s ≡ fresh_session → Valid s → Along 0 before s
+    along_start e v =
+        let all : call_count records - 0 ≡ call_count records = omega arith in
+        record { valid = v; ledger = empty_ledger; stands = e; rest = ap (λ (n : ℕ). sets before 0 (answers_from empty_ledger n 0)) all }
 
     -- k is the length of the part that is lent, ys what the writer leaves there
-    pub along_next : {from to left : ℕ} {buffer : List ℕ} {s : Session} {r : Served} (k : ℕ) (ys : List ℕ) → Along from to left buffer s → 0 < left
-        → Meets s (call_of (take (length records - from) (drop from records)) slices) r → to ≤ length buffer → length buffer - to ≡ k
-        → ys ≡ sets (take k (drop to buffer)) 0 (answer_record (outcome_of r.answer))
-        → Along (from + call_words) (to + answer_words) (left - 1) (take to buffer ++ (ys ++ drop k (drop to buffer))) r.session
-    along_next {from} {to} {left} {buffer} {s} {r} k ys a h made f g q =
+    pub along_next : {i : ℕ} {buffer : List ℕ} {s : Session} {r : Served} (k : ℕ) (ys : List ℕ) → Along i buffer s → i < call_count records
+        → Meets s (call_of (take (length records - i * call_words) (drop (i * call_words) records)) slices) r
+        → i * answer_words ≤ length buffer → length buffer - i * answer_words ≡ k
+        → ys ≡ sets (take k (drop (i * answer_words) buffer)) 0 (answer_record (outcome_of r.answer))
+        → Along (i + 1) (take (i * answer_words) buffer ++ (ys ++ drop k (drop (i * answer_words) buffer))) r.session
+    along_next {i} {buffer} {s} {r} k ys a h made f g q =
         let l : Ledger = a.ledger in
+        let from : ℕ = i * call_words in
+        let to : ℕ = i * answer_words in
+        let left : ℕ = call_count records - i in
         let c : Call = call_at records slices from in
         let o : Outcome = (entered l c).outcome in
         let m : Meets s c r = subst (λ (words : List ℕ). Meets s (call_of words slices) r) (rest_lent from) made in
         let more : List ℕ = answers_from (entered l c).ledger (left - 1) (from + call_words) in
+        let after : List ℕ = take to buffer ++ (ys ++ drop k (drop to buffer)) in
+        let to_next : (i + 1) * answer_words ≡ to + answer_words = omega arith in
+        let from_next : (i + 1) * call_words ≡ from + call_words = omega arith in
+        let left_next : call_count records - (i + 1) ≡ left - 1 = omega arith in
         record {
           valid = m.valid;
           ledger = (entered l c).ledger;
           stands = m.next l a.stands;
           rest =
-              ap (λ (d : List ℕ). sets (take to buffer ++ (d ++ drop k (drop to buffer))) (to + answer_words) more)
+              (λ j. sets after (to_next j) (answers_from (entered l c).ledger (left_next j) (from_next j)))
+              ∙ ap (λ (d : List ℕ). sets (take to buffer ++ (d ++ drop k (drop to buffer))) (to + answer_words) more)
               (q ∙ ap (λ (x : Outcome). sets (take k (drop to buffer)) 0 (answer_record x)) (m.outcome l a.stands))
               ∙ ap (λ (d : List ℕ). sets d (to + answer_words) more) (sets_part buffer to k (answer_record o) f g)
               ∙ sets_then buffer to answer_words (answer_record o) more (length-answer o)
@@ -92,12 +104,13 @@ module _ (records : List ℕ) (slices : Slices) where
               ∙ a.rest;
         }
 
-    pub along_end : {from to left : ℕ} {buffer : List ℕ} {s : Session} → Along from to left buffer s → left ≤ 0
+    pub along_end : {i : ℕ} {buffer : List ℕ} {s : Session} → Along i buffer s → call_count records ≤ i
         → call_count records * answer_words ≤ length before
         → buffer ≡ answers_from empty_ledger (call_count records) 0 ++ drop (answer_words * call_count records) before
-    along_end {from} {to} {left} {buffer} a h f =
+    along_end {i} {buffer} a h f =
         let whole : List ℕ = answers_from empty_ledger (call_count records) 0 in
         let n : length whole ≡ answer_words * call_count records = length-answers empty_ledger (call_count records) 0 in
-        ap (λ (xs : List ℕ). sets buffer to xs) (sym (answers_none a.ledger left from (omega arith))) ∙ a.rest
+        ap (λ (xs : List ℕ). sets buffer (i * answer_words) xs) (sym (answers_none a.ledger (call_count records - i) (i * call_words) (omega arith)))
+        ∙ a.rest
         ∙ sets_front before whole (omega arith)
         ∙ ap (λ (k : ℕ). whole ++ drop k before) n

@@ -14,31 +14,27 @@
 --   any other number: report
 -- Words that a call does not name may hold anything. A part that runs past the end of its slice is a table of length 0. A record that ends early
 -- counts as one that goes on with zeros.
-use Rattle.std.specs.Prelude.{◌≡◌, cond, List, [], ◌∷◌, ℕ, zero, suc, ◌+◌, ◌-◌, ◌/◌, ◌≤◌, leb, eqb, length, get_or, take, drop}
+use Rattle.std.specs.Prelude.{cond, List, [], ◌∷◌, ℕ, zero, suc, ◌+◌, ◌/◌, leb, eqb, length, get_or, take, drop}
 use Rattle.cie.specs.declared.Space.TheVariants.{Cielab, Cieluv}
 use Rattle.cie.specs.Sums.{Tables, tables_of}
 use Rattle.looks.specs.Look.{Look, preview, nearest}
+use Rattle.calls.specs.declared.Kind.{Kind}
+use Rattle.calls.specs.declared.Kind.TheVariants.{Report, OpenTables, OpenLight, Standard, ToleranceLab, ToleranceLuv, Trial, Preview, Nearest}
 use Rattle.session.specs.Call.{Call, open_tables, open_light, set_standard, set_tolerance, trial, report, look}
 
 abbrev pub call_words : ℕ
 call_words = 10
 
 -- a part of a slice, or nothing where it runs past the end
-unfoldable pub part_of : List ℕ → ℕ → ℕ → List ℕ
+unfoldable pub part_of : {A : Type 0} → List A → ℕ → ℕ → List A
 part_of slice start count = cond (leb (start + count) (length slice)) (take count (drop start slice)) []
-
--- where that part stands: in every slice of that length it is what lies between two places
-pub record Lies (start count room from to : ℕ) : Type 0 where
-  pub order : from ≤ to
-  pub within : to ≤ room
-  pub between : (slice : List ℕ) → length slice ≡ room → take (to - from) (drop from slice) ≡ part_of slice start count
 
 -- a word of a record
 abbrev pub word_at : List ℕ → ℕ → ℕ
 word_at words i = get_or words i 0
 
 -- the part of a slice that two words of a record name, one after the other
-abbrev pub part_at : List ℕ → List ℕ → ℕ → List ℕ
+abbrev pub part_at : {A : Type 0} → List A → List ℕ → ℕ → List A
 part_at slice words i = part_of slice (word_at words i) (word_at words (i + 1))
 
 -- what the lent slices hold: tables, spectra, and the bytes of shade books
@@ -58,22 +54,46 @@ tables_at slice words = tables_of (word_at words 9) (part_at slice words 1) (par
 abbrev pub search_at : List ℕ → List ℕ → List ℕ → Look
 search_at spectra books words = nearest (word_at words 5) (part_at spectra words 1) (part_at books words 3)
 
+-- which call the first word says
+abbrev pub kind_of : ℕ → Kind
+kind_of word =
+    cond (eqb word 1) OpenTables
+    (cond (eqb word 2) OpenLight
+    (cond (eqb word 3) Standard
+    (cond (eqb word 4) ToleranceLab
+    (cond (eqb word 5) ToleranceLuv
+    (cond (eqb word 6) Trial
+    (cond (eqb word 7) Preview
+    (cond (eqb word 8) Nearest
+    Report)))))))
+
+-- the word that says a kind; a report's is one of those that it may have
+abbrev pub kind_word : Kind → ℕ
+kind_word Report = 0
+kind_word OpenTables = 1
+kind_word OpenLight = 2
+kind_word Standard = 3
+kind_word ToleranceLab = 4
+kind_word ToleranceLuv = 5
+kind_word Trial = 6
+kind_word Preview = 7
+kind_word Nearest = 8
+
 -- the call of a kind, with the other words of its record
-unfoldable pub call_of_kind : ℕ → List ℕ → Slices → Call
-call_of_kind kind words slices =
-    cond (eqb kind 1) (open_tables (tables_at slices.tables words))
-    (cond (eqb kind 2) (open_light (word_at words 1) (word_at words 2))
-    (cond (eqb kind 3) (set_standard (part_at slices.spectra words 1))
-    (cond (eqb kind 4) (set_tolerance Cielab (word_at words 1))
-    (cond (eqb kind 5) (set_tolerance Cieluv (word_at words 1))
-    (cond (eqb kind 6) (trial (word_at words 3) (part_at slices.spectra words 1))
-    (cond (eqb kind 7) (look (preview (word_at words 3) (part_at slices.spectra words 1)))
-    (cond (eqb kind 8) (look (search_at slices.spectra slices.books words))
-    report)))))))
+abbrev pub call_of_kind : Kind → List ℕ → Slices → Call
+call_of_kind OpenTables words slices = open_tables (tables_at slices.tables words)
+call_of_kind OpenLight words slices = open_light (word_at words 1) (word_at words 2)
+call_of_kind Standard words slices = set_standard (part_at slices.spectra words 1)
+call_of_kind ToleranceLab words slices = set_tolerance Cielab (word_at words 1)
+call_of_kind ToleranceLuv words slices = set_tolerance Cieluv (word_at words 1)
+call_of_kind Trial words slices = trial (word_at words 3) (part_at slices.spectra words 1)
+call_of_kind Preview words slices = look (preview (word_at words 3) (part_at slices.spectra words 1))
+call_of_kind Nearest words slices = look (search_at slices.spectra slices.books words)
+call_of_kind Report words slices = report
 
 -- the call of a record
 abbrev pub call_of : List ℕ → Slices → Call
-call_of words slices = call_of_kind (word_at words 0) words slices
+call_of words slices = call_of_kind (kind_of (word_at words 0)) words slices
 
 -- the call whose record begins at a place
 abbrev pub call_at : List ℕ → Slices → ℕ → Call

@@ -1,13 +1,11 @@
 -- What running a list of calls answers and leaves in the lent buffer. Assumes nothing.
 use Rattle.std.specs.Prelude.{List, [], ◌∷◌, ◌++◌, ℕ, ◌*◌, ltb, length, drop}
 use Rattle.causes.specs.declared.Cause.TheVariants.{ShortBuffer}
-use Rattle.causes.specs.Causes.{Numbered, accepted, refusal}
+use Rattle.causes.specs.Causes.{Numbered}
 use Rattle.causes.specs.Checks.{Check, check, first_of, unless, numbered}
 use Rattle.session.specs.Call.{Call}
 use Rattle.session.specs.Ledger.{empty_ledger, outcomes_at}
 use Rattle.answers.specs.Answers.{answer_words, answer_records}
-use Rattle.calls.specs.declared.Ran.{Ran}
-use Rattle.calls.specs.declared.Ran.TheVariants.{Answered, Refused}
 use Rattle.calls.specs.Records.{Slices, calls_from, call_count}
 
 -- the list of calls that the slices hold
@@ -17,11 +15,6 @@ calls_in records slices = calls_from (call_count records) records slices 0
 -- 15, short buffer: "shorter than what is to be written"
 abbrev pub run_checks : List ℕ → ℕ → List Check
 run_checks records room = check (ltb room (answer_words * call_count records)) ShortBuffer ∷ []
-
--- what a run answers, in the paper's numbers
-abbrev pub run_answer : Ran → Numbered ℕ
-run_answer (Answered n) = accepted n
-run_answer (Refused cause) = refusal cause
 
 -- how many calls were answered, or the cause
 unfoldable pub ran : List ℕ → ℕ → Numbered ℕ

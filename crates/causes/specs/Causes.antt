@@ -1,5 +1,5 @@
 -- Document 01, "Causes", and the errors of document 02: the number of each cause. Assumes nothing.
-use Rattle.std.specs.Prelude.{ℕ}
+use Rattle.std.specs.Prelude.{ℕ, Result, Ok, Err}
 use Rattle.causes.specs.declared.Cause.{Cause}
 use Rattle.causes.specs.declared.Cause.TheVariants.{ShortTable, OverBright, OffScaleCondition, DarkWhite, LopsidedWhite, NoConditions, NoStandard, NoTolerance, ToleranceOffScale, SessionFull, NotABook, NoSuchShade, TooManyShades, OutOfOrder, ShortBuffer, NoSuchLight, UnknownSpacing, NoSuchTable, SpotCount, EmptyLook}
 
@@ -33,6 +33,11 @@ pub data Numbered (A : Type 0) : Type 0 where
 -- a refusal by its cause
 abbrev pub refusal : {A : Type 0} → Cause → Numbered A
 refusal cause = refused (cause_number cause)
+
+-- what a call answers, in the paper's numbers
+abbrev pub answer_of : {A : Type 0} → Result A Cause → Numbered A
+answer_of (Ok value) = accepted value
+answer_of (Err cause) = refusal cause
 
 -- the same answer, with another form of what is accepted
 abbrev pub mapped : {A B : Type 0} → (A → B) → Numbered A → Numbered B

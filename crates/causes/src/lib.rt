@@ -4,7 +4,7 @@
 ghost use Rattle.std.specs.Prelude.{◌≡◌};
 ghost use Rattle.causes.specs.Causes.{cause_number};
 
-#[derive(Clone, Copy)]
+#[derive(Clone, Copy, Debug, PartialEq, Eq, Hash)]
 pub enum Cause {
     ShortTable,
     OverBright,
@@ -28,37 +28,32 @@ pub enum Cause {
     EmptyLook,
 }
 
-// What checks in an order find: nothing, or the cause of the first that holds.
-#[derive(Clone, Copy)]
-pub enum Checked {
-    Clear,
-    Because(Cause),
-}
-
 // The cause's number in the table.
-pub fn number(cause: Cause) -> u32
-    ensures { result ≡ cause_number cause }
-{
-    match cause {
-        Cause::ShortTable => 1,
-        Cause::OverBright => 2,
-        Cause::OffScaleCondition => 3,
-        Cause::DarkWhite => 4,
-        Cause::LopsidedWhite => 5,
-        Cause::NoConditions => 6,
-        Cause::NoStandard => 7,
-        Cause::NoTolerance => 8,
-        Cause::ToleranceOffScale => 9,
-        Cause::SessionFull => 10,
-        Cause::NotABook => 11,
-        Cause::NoSuchShade => 12,
-        Cause::TooManyShades => 13,
-        Cause::OutOfOrder => 14,
-        Cause::ShortBuffer => 15,
-        Cause::NoSuchLight => 16,
-        Cause::UnknownSpacing => 17,
-        Cause::NoSuchTable => 18,
-        Cause::SpotCount => 19,
-        Cause::EmptyLook => 20,
+impl From<Cause> for u32 {
+    ghost from_gives = { λ cause n. n ≡ cause_number cause };
+
+    fn from(cause: Cause) -> u32 {
+        match cause {
+            Cause::ShortTable => 1,
+            Cause::OverBright => 2,
+            Cause::OffScaleCondition => 3,
+            Cause::DarkWhite => 4,
+            Cause::LopsidedWhite => 5,
+            Cause::NoConditions => 6,
+            Cause::NoStandard => 7,
+            Cause::NoTolerance => 8,
+            Cause::ToleranceOffScale => 9,
+            Cause::SessionFull => 10,
+            Cause::NotABook => 11,
+            Cause::NoSuchShade => 12,
+            Cause::TooManyShades => 13,
+            Cause::OutOfOrder => 14,
+            Cause::ShortBuffer => 15,
+            Cause::NoSuchLight => 16,
+            Cause::UnknownSpacing => 17,
+            Cause::NoSuchTable => 18,
+            Cause::SpotCount => 19,
+            Cause::EmptyLook => 20,
+        }
     }
 }

@@ -7,7 +7,7 @@ use lib.IntN.{ℤ, pos, negsuc}
 use lib.ListN.{replicate}
 unfoldable pub use Rattle.wide.specs.Roots.{square_root, cube_root, greatest, climb, next_bit}
 use Rattle.cie.specs.declared.Chromaticity.{Chromaticity}
-use Rattle.cie.specs.declared.Chromaticity.TheVariants.{At}
+use Rattle.std.specs.Prelude.{Option, Some}
 use Rattle.cie.specs.declared.Colour.{Colour}
 use Rattle.cie.specs.declared.Space.TheVariants.{Cielab}
 use Rattle.cie.specs.declared.Verdict.{Verdict}
@@ -20,7 +20,7 @@ use Rattle.cie.specs.Verdict.{margin, verdict_of}
 pub data Value : Type 0 where
   count : ℕ → Value
   signed : ℤ → Value
-  place : Chromaticity → Value
+  place : Option Chromaticity → Value
   verdict : Verdict → Value
 
 -- group 3: "Illuminant 1 in the first three rows, else 0; x, y, z each 1 in row one, two, three respectively, else 0"
@@ -91,7 +91,7 @@ pub marked : sweep ≡
     ∷ signed (pos 400000)
     ∷ signed (pos 6238888)
     ∷ signed (negsuc 508338)
-    ∷ place (At 868055 108506)
+    ∷ place (Some (record { x = 868055; y = 108506 }))
     ∷ count 2531797
     ∷ count 232000
     ∷ verdict Pass

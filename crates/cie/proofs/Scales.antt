@@ -1,6 +1,6 @@
 -- Laws of limits on a table's entries. Assumes nothing.
 use mathlib.Core.Path.{◌≡◌, refl, sym, ◌∙◌, ap}
-use mathlib.Core.Bool.{Bool, true, false, cond, ◌||◌, or_assoc, or-false}
+use mathlib.Core.Bool.{Bool, true, false, ◌||◌, or_assoc, or-false}
 use mathlib.Core.List.{List, [], ◌∷◌, ◌++◌}
 use Prim.Native.Nat.{ℕ, zero, suc, ◌+◌, ◌≤◌, ◌<◌}
 use native.Mathlib.Omega.{arith}
@@ -8,8 +8,10 @@ use native.Mathlib.Numerals.{add-one}
 use borrow.Author.Tests.{ltb-true, ltb-false, lt-ltb, le-ltb}
 use lib.Dec.{ltb}
 use lib.ListN.{length, get_or, take, drop, take-append-drop}
-use lib.Seq.{drop-cons, drop-length}
-use Rattle.cie.specs.Scales.{any_above, larger_of, Largest}
+use lib.Seq.{drop-cons}
+use Rattle.cie.specs.Scales.{any_above}
+use Rattle.std.proofs.Common.{fold, max, unwrap_or}
+use Rattle.std.specs.List.{reduce}
 
 pub or_left : (a b : Bool) → (a || b) ≡ false → a ≡ false
 or_left true b h = h
@@ -57,29 +59,21 @@ below_parts limit k xs h =
     (or_left (any_above limit (take k xs)) (any_above limit (drop k xs)) parts, or_right (any_above limit (take k xs)) (any_above limit (drop k xs)) parts)
 
 -- the larger of two decides for both
-larger_decides : (limit a b : ℕ) (t : Bool) → (ltb limit (larger_of a b) || t) ≡ (ltb limit a || (ltb limit b || t))
-larger_decides l a b t = go (ltb a b) refl (ltb l a) (ltb l b) refl refl
+larger_decides : (limit a b : ℕ) (t : Bool) → (ltb limit (max a b) || t) ≡ (ltb limit a || (ltb limit b || t))
+larger_decides l a b t = go (ltb l a) (ltb l b) refl refl
   where
-    go : (k : Bool) → ltb a b ≡ k → (u v : Bool) → ltb l a ≡ u → ltb l b ≡ v → (ltb l (cond k b a) || t) ≡ (u || (v || t))
-    go true h true v d e = rw (lt-ltb l b (omega (arith, ltb-true l a d, ltb-true a b h)))
-    go true h false v d e = rw e
-    go false h true v d e = rw d
-    go false h false true d e = rw (lt-ltb l a (omega (arith, ltb-true l b e, ltb-false a b h)))
-    go false h false false d e = rw d
+    go : (u v : Bool) → ltb l a ≡ u → ltb l b ≡ v → (ltb l (max a b) || t) ≡ (u || (v || t))
+    go true v d e = rw (lt-ltb l (max a b) (omega (arith, ltb-true l a d)))
+    go false true d e = rw (lt-ltb l (max a b) (omega (arith, ltb-true l b e)))
+    go false false d e = rw (le-ltb l (max a b) (omega (arith, ltb-false l a d, ltb-false l b e)))
 
--- the largest of the rows before i: with the rows that are left it decides
-pub record Leads (xs : List ℕ) (top i : ℕ) : Type 0 where
-  pub left : (limit : ℕ) → (ltb limit top || any_above limit (drop i xs)) ≡ any_above limit xs
-
-pub leads_none : (xs : List ℕ) → Leads xs 0 0
-leads_none xs = record { left = λ l. rw (le-ltb l 0 (omega arith)) }
-
-pub leads_more : {xs : List ℕ} {top i : ℕ} → i < length xs → Leads xs top i → Leads xs (larger_of top (get_or xs i 0)) (i + 1)
-leads_more {xs} {top} {i} h s =
-    record {
-      left = λ l. larger_decides l top (get_or xs i 0) _ ∙ ap (λ (t : Bool). ltb l top || t) (sym (above_more l xs i h)) ∙ s.left l;
-    }
-
-pub leads_all : {xs : List ℕ} {top i : ℕ} → i ≡ length xs → Leads xs top i → Largest xs top
+-- the largest of m and the entries: with m it decides
+largest_from : (limit m : ℕ) (xs : List ℕ) → ltb limit (fold max m xs) ≡ (ltb limit m || any_above limit xs)
 unfolding any_above
-leads_all {xs} {top} {i} e s = record { decides = λ l. sym (or-false (ltb l top)) ∙ (rw (e, drop-length) at (s.left l)) }
+largest_from l m [] = sym (or-false (ltb l m))
+largest_from l m (x ∷ xs) = largest_from l (max m x) xs ∙ larger_decides l m x (any_above l xs)
+
+pub largest_decides : (limit : ℕ) (xs : List ℕ) → ltb limit (unwrap_or (reduce max xs) 0) ≡ any_above limit xs
+unfolding any_above
+largest_decides l [] = le-ltb l 0 (omega arith)
+largest_decides l (x ∷ xs) = largest_from l x xs

@@ -13,7 +13,8 @@ use Rattle.wide.proofs.Greatest.{root_lt, square_root_floor}
 use Rattle.wide.proofs.Scaling.{div_floor}
 use Rattle.signed.proofs.Parts.{abs_parts, apart_parts, scaled_over, scaled_under, share_over, share_under}
 use Rattle.cie.specs.declared.Sums.{Sums}
-use Rattle.cie.specs.declared.Chromaticity.TheVariants.{None, At}
+use Rattle.std.specs.Prelude.{Some, None}
+use Rattle.cie.specs.declared.Chromaticity.{Chromaticity}
 use Rattle.cie.specs.Sums.{White, AtMostTwice}
 use Rattle.cie.specs.Colour.{tristimulus_scale, tristimulus_of, chromaticity_scale, xy_under, chromaticity_of, l_at, a_factor, b_factor, a_at, b_at, step_at}
 use Rattle.cie.specs.Colour.{u_over, v_over, uv_under, prime_scale, prime, uv_factor, coordinate, u_of, v_of, square, squares, chroma, colour_of}
@@ -126,9 +127,9 @@ luv_squares x y z h k l = omega (arith, squares_le h k l)
 
 -- ── a whole colour ──
 
-chromaticity_size : (s : Sums) (x y : ℕ) → chromaticity_of s ≡ At x y → (x ≤ 1000000) × (y ≤ 1000000)
+chromaticity_size : (s : Sums) (c : Chromaticity) → chromaticity_of s ≡ Some c → (c.x ≤ 1000000) × (c.y ≤ 1000000)
 unfolding chromaticity_of
-chromaticity_size s x y = go (eqb (xy_under s) 0)
+chromaticity_size s c = go (eqb (xy_under s) 0)
   where
     p : ℕ
     p = chromaticity_scale * s.x / xy_under s
@@ -136,11 +137,11 @@ chromaticity_size s x y = go (eqb (xy_under s) 0)
     q : ℕ
     q = chromaticity_scale * s.y / xy_under s
 
-    go : (b : Bool) → cond b None (At p q) ≡ At x y → (x ≤ 1000000) × (y ≤ 1000000)
+    go : (b : Bool) → cond b None (Some (record { x = p; y = q })) ≡ Some c → (c.x ≤ 1000000) × (c.y ≤ 1000000)
     go true e = let z : ◌≡◌ {A = ℕ} 0 1 = cc in omega arith
     go false e =
-        let f : p ≡ x = cc in
-        let g : q ≡ y = cc in
+        let f : p ≡ c.x = cc in
+        let g : q ≡ c.y = cc in
         omega (arith, ratio_size s.x (xy_under s) (omega arith), ratio_size s.y (xy_under s) (omega arith))
 
 pub colour_sized : {w s : Sums} → White w → AtMostTwice w s → Sized (colour_of w s)

@@ -1,14 +1,13 @@
 -- Document 01, "Colour", sentence by sentence, with the constants of document 02, Job 5. N stands for X, Y or Z of the sample s and D for that
 -- of the white w in the same place. Every value that the exact difference needs is defined at a scale M; M = 1 is the colour's. Native `/` is
 -- "down". Assumes nothing.
-use Rattle.std.specs.Prelude.{Bool, cond, List, ℕ, ◌+◌, ◌*◌, ◌-◌, ◌/◌, ltb, eqb, ℤ, pos, nat_abs, ◌-ℤ◌, ◌*ℤ◌}
+use Rattle.std.specs.Prelude.{Bool, cond, List, Option, Some, None, ℕ, ◌+◌, ◌*◌, ◌-◌, ◌/◌, ltb, eqb, ℤ, pos, nat_abs, ◌-ℤ◌, ◌*ℤ◌}
 use Rattle.std.specs.Int.Signed.{quot_z}
 use Rattle.wide.specs.Roots.{square_root, cube_root}
 use Rattle.signed.specs.Apart.{distance, apart}
 use Rattle.cie.specs.declared.Sums.{Sums}
 use Rattle.cie.specs.declared.Tristimulus.{Tristimulus}
 use Rattle.cie.specs.declared.Chromaticity.{Chromaticity}
-use Rattle.cie.specs.declared.Chromaticity.TheVariants.{None, At}
 use Rattle.cie.specs.declared.Colour.{Colour}
 use Rattle.cie.specs.declared.LabUnits.{LabUnits}
 use Rattle.cie.specs.declared.LuvUnits.{LuvUnits}
@@ -29,8 +28,9 @@ chromaticity_scale = 1000000
 abbrev pub xy_under : Sums → ℕ
 xy_under s = s.x + s.y + s.z
 
-unfoldable pub chromaticity_of : Sums → Chromaticity
-chromaticity_of s = cond (eqb (xy_under s) 0) None (At (chromaticity_scale * s.x / xy_under s) (chromaticity_scale * s.y / xy_under s))
+unfoldable pub chromaticity_of : Sums → Option Chromaticity
+chromaticity_of s =
+    cond (eqb (xy_under s) 0) None (Some (record { x = chromaticity_scale * s.x / xy_under s; y = chromaticity_scale * s.y / xy_under s }))
 
 -- CIE 15:2004: "The limit becomes (24/116)³", which is 216/24389
 abbrev pub limit_over : ℕ

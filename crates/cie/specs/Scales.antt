@@ -1,5 +1,5 @@
 -- Document 01, "From readings to sums": how large the entries of the rows may be. Assumes nothing.
-use Rattle.std.specs.Prelude.{◌≡◌, Bool, false, cond, ◌||◌, List, [], ◌∷◌, ℕ, ltb}
+use Rattle.std.specs.Prelude.{Bool, false, ◌||◌, List, [], ◌∷◌, ℕ, ltb}
 
 -- "A reading is a reflectance in 1/10,000, from 0 to 20,000.": the reader's limit, which is also the listing's and the host call's. Document 02:
 -- "Books already written may hold up to 20,000: they still read and list, and the host call still takes them"
@@ -26,10 +26,3 @@ white_reading = 10000
 unfoldable pub any_above : ℕ → List ℕ → Bool
 any_above limit [] = false
 any_above limit (x ∷ xs) = ltb limit x || any_above limit xs
-
-abbrev pub larger_of : ℕ → ℕ → ℕ
-larger_of a b = cond (ltb a b) b a
-
--- m is the largest entry, or 0 where there is none: an entry is above a limit just where m is
-pub record Largest (xs : List ℕ) (m : ℕ) : Type 0 where
-  pub decides : (limit : ℕ) → ltb limit m ≡ any_above limit xs

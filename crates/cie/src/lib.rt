@@ -9,7 +9,7 @@ pub mod spectrum;
 pub mod tables;
 
 // X, Y and Z: the sums over the rows of a spectrum, or of the white.
-#[derive(Clone, Copy)]
+#[derive(Clone, Copy, Debug, PartialEq, Eq)]
 pub struct Sums {
     pub x: u64,
     pub y: u64,
@@ -31,25 +31,25 @@ impl Sums {
 }
 
 // The tristimulus values, in 1/10,000 where the white's Y is 100.
-#[derive(Clone, Copy)]
+#[derive(Clone, Copy, Debug, PartialEq, Eq)]
 pub struct Tristimulus {
     pub x: u32,
     pub y: u32,
     pub z: u32,
 }
 
-// The chromaticity x, y, in 1/1,000,000; none where X + Y + Z is 0.
-#[derive(Clone, Copy)]
-pub enum Chromaticity {
-    None,
-    At(u32, u32),
+// The chromaticity x, y, in 1/1,000,000.
+#[derive(Clone, Copy, Debug, PartialEq, Eq)]
+pub struct Chromaticity {
+    pub x: u32,
+    pub y: u32,
 }
 
-// A colour, L, a, b, u, v and both chromas in 1/10,000.
-#[derive(Clone, Copy)]
+// A colour, L, a, b, u, v and both chromas in 1/10,000; no chromaticity where X + Y + Z is 0.
+#[derive(Clone, Copy, Debug, PartialEq, Eq)]
 pub struct Colour {
     pub tristimulus: Tristimulus,
-    pub chromaticity: Chromaticity,
+    pub chromaticity: Option<Chromaticity>,
     pub l: u32,
     pub a: i32,
     pub b: i32,
@@ -60,22 +60,22 @@ pub struct Colour {
 }
 
 // A difference or an amount in CIELAB, in 1/10,000.
-#[derive(Clone, Copy)]
+#[derive(Clone, Copy, Debug, PartialEq, Eq)]
 pub struct LabUnits(pub u32);
 
 // A difference or an amount in CIELUV, in 1/10,000.
-#[derive(Clone, Copy)]
+#[derive(Clone, Copy, Debug, PartialEq, Eq)]
 pub struct LuvUnits(pub u32);
 
 // The two spaces of GB/T 7921-1997.
-#[derive(Clone, Copy)]
+#[derive(Clone, Copy, Debug, PartialEq, Eq, Hash)]
 pub enum Space {
     Cielab,
     Cieluv,
 }
 
 // What a trial finds.
-#[derive(Clone, Copy)]
+#[derive(Clone, Copy, Debug, PartialEq, Eq, Hash)]
 pub enum Verdict {
     Pass,
     Fail,

@@ -21,21 +21,19 @@ const COARSE_BYTES: usize = READING_BYTES * COARSE_ROWS;
 pub fn is_unknown(spacing: u32) -> bool
     ensures { result ≡ unknown_spacing spacing }
 {
-    if spacing == FINE_SPACING {
-        return false;
-    }
-    spacing != COARSE_SPACING
+    !matches!(spacing, FINE_SPACING | COARSE_SPACING)
 }
 
-// The rows at a spacing.
+// The rows at a spacing: a number and no enum, since this answers for every number, of which all but 10 have the most rows.
 #[tactic(auto, unfolding(crate::specs::Spacing::rows_at))]
 pub fn rows_at(spacing: u32) -> usize
     ensures { (result ≡ rows_at spacing) × (0 < result) × (result ≤ most_rows) }
 {
     if spacing == COARSE_SPACING {
-        return COARSE_ROWS;
+        COARSE_ROWS
+    } else {
+        MOST_ROWS
     }
-    MOST_ROWS
 }
 
 // The spacing of a spectrum that has so many bytes.
@@ -44,7 +42,8 @@ pub fn told_by(bytes: usize) -> u32
     ensures { result ≡ spacing_told bytes }
 {
     if bytes == COARSE_BYTES {
-        return COARSE_SPACING;
+        COARSE_SPACING
+    } else {
+        FINE_SPACING
     }
-    FINE_SPACING
 }

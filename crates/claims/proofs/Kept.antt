@@ -5,7 +5,7 @@ use mathlib.Core.Bool.{false}
 use mathlib.Core.List.{List}
 use Prim.Native.Nat.{ℕ}
 use native.Mathlib.Omega.{arith}
-use Rattle.causes.specs.declared.Checked.TheVariants.{Clear}
+use Rattle.std.specs.Prelude.{Ok}
 use Rattle.causes.specs.Causes.{Numbered, accepted, refused}
 use Rattle.causes.specs.Checks.{first_of}
 use Rattle.causes.proofs.Checks.{clear_head, clear_at, either}
@@ -21,7 +21,7 @@ use Rattle.session.specs.Ledger.{Held, none, held, Ledger, empty_ledger, Entry, 
 
 abbrev pub Proper : Held Tables → Type 0
 Proper none = Unit
-Proper (held t) = first_of (table_checks t) ≡ Clear
+Proper (held t) = first_of (table_checks t) ≡ Ok tt
 
 abbrev pub Readable : Held (List ℕ) → Type 0
 Readable none = Unit

@@ -7,8 +7,8 @@ use mathlib.Core.Option.{Option, none, some}
 use Prim.Native.Nat.{ℕ}
 use native.Mathlib.Omega.{arith}
 use Rattle.causes.specs.declared.Cause.TheVariants.{SessionFull}
-use Rattle.causes.specs.declared.Checked.{Checked}
-use Rattle.causes.specs.declared.Checked.TheVariants.{Clear, Because}
+use Rattle.causes.specs.Checks.{Checked}
+use Rattle.std.specs.Prelude.{Ok, Err}
 use Rattle.causes.specs.Causes.{Numbered, accepted, refused, refusal, cause_number}
 use Rattle.causes.specs.Checks.{first_of, unless}
 use Rattle.causes.proofs.Checks.{first_fires, first_passes, clear_at, either, refuses}
@@ -66,12 +66,12 @@ module _ (s : Session) (table : ℕ) (readings : List ℕ) where
   stepped = counted_when (is_full_at s.tallies.sets table)
 
   -- a trial that has a verdict by itself passes all checks but that of a full table
-  own_clear : (t : Checked) (a : Numbered TrialOutcome) (verdict : Verdict) → verdict_in (unless t refusal a) ≡ some verdict → t ≡ Clear
+  own_clear : (t : Checked) (a : Numbered TrialOutcome) (verdict : Verdict) → verdict_in (unless t refusal a) ≡ some verdict → t ≡ Ok tt
   unfolding unless
-  own_clear Clear a verdict e = refl
-  own_clear (Because c) a verdict e = cc
+  own_clear (Ok tt) a verdict e = refl
+  own_clear (Err c) a verdict e = cc
 
-  full_because : checks_when false ≡ Clear → checks_when true ≡ Because SessionFull
+  full_because : checks_when false ≡ Ok tt → checks_when true ≡ Err SessionFull
   full_because e =
       first_passes _ _ _ (clear_at _ e 0)
       ∙ first_passes _ _ _ (clear_at _ e 1)

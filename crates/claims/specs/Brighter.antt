@@ -1,7 +1,7 @@
 -- Document 02, "Brighter is never darker": what is claimed of the colours that a session answers. Nothing of the kind is claimed for a, b, u or v.
 -- Assumes nothing.
 use Rattle.std.specs.Prelude.{◌≡◌, List, ℕ}
-use Rattle.causes.specs.declared.Checked.TheVariants.{Clear}
+use Rattle.std.specs.Prelude.{Ok}
 use Rattle.causes.specs.Causes as causes
 use Rattle.causes.specs.Checks.{first_of}
 use Rattle.cie.specs.declared.Colour.{Colour}
@@ -38,5 +38,5 @@ pub record BrighterNeverDarker : Type 0 where
   pub told : (t : Tables) {first second : List ℕ} {p q : Colour} →
       AcceptedSpectrum t first p → AcceptedSpectrum t second q → NoneHigher first second → NoBrighter p q
   -- it speaks of every spectrum that passes its checks, under all tables that pass theirs
-  pub of_every : (t : Tables) (readings : List ℕ) → first_of (table_checks t) ≡ Clear →
-      first_of (spectrum_checks frame_limit (rows_at t.spacing) readings) ≡ Clear → AcceptedSpectrum t readings (colour_at t readings)
+  pub of_every : (t : Tables) (readings : List ℕ) → first_of (table_checks t) ≡ Ok tt →
+      first_of (spectrum_checks frame_limit (rows_at t.spacing) readings) ≡ Ok tt → AcceptedSpectrum t readings (colour_at t readings)

@@ -7,6 +7,7 @@ use lib.Signed.{mag}
 use Rattle.signed.specs.Apart.{distance, apart}
 use Rattle.signed.proofs.Passed.{passed, survives, small_survives}
 use Rattle.cie.specs.declared.Colour.{Colour}
+use Rattle.std.specs.Prelude.{Option}
 use Rattle.cie.specs.declared.Chromaticity.{Chromaticity}
 use Rattle.cie.specs.declared.Sums.{Sums}
 use Rattle.cie.specs.declared.Tristimulus.{Tristimulus}
@@ -38,7 +39,7 @@ coordinates_are w s W S l a b u v el eab euv =
     )
 
 -- the whole colour, by its coordinates k
-pub colour_is : (w s : Sums) → White w → AtMostTwice w s → (t : Tristimulus) (c : Chromaticity) (k : Coordinates) (cab cuv : ℕ) →
+pub colour_is : (w s : Sums) → White w → AtMostTwice w s → (t : Tristimulus) (c : Option Chromaticity) (k : Coordinates) (cab cuv : ℕ) →
     t ≡ tristimulus_of w s → c ≡ chromaticity_of s → k ≡ coordinates_in (colour_of w s) →
     cab ≡ chroma (passed k.a) (passed k.b) → cuv ≡ chroma (passed k.u) (passed k.v) →
     record { tristimulus = t; chromaticity = c; l = k.l; a = passed k.a; b = passed k.b; u = passed k.u; v = passed k.v; cab = cab; cuv = cuv }
@@ -77,24 +78,9 @@ pub squares_of_lem : (m n : Place) (x y z : ℕ) → mag m.p < 2 ^ 31 → mag n.
     squares x y z ≡ squares_between m n
 squares_of_lem m n x y z mp np mq nq e f g = rw (e, f, g, survives {z = m.p} mp, survives {z = n.p} np, survives {z = m.q} mq, survives {z = n.q} nq)
 
--- the places of two colours, as a program passes them
-abbrev pub placed : ℕ → ℤ → ℤ → Place
-placed l p q = record { l = l; p = passed p; q = passed q }
-
-module _ {l m : ℕ} {p q r s : ℤ} (A : Within l p q) (B : Within m r s) where
-  pub squares_are : squares_between (placed l p q) (placed m r s) ≡ squares (distance l m) (apart p r) (apart q s)
-  squares_are =
-      rw (
-        small_survives p (omega arith),
-        small_survives q (omega arith),
-        small_survives r (omega arith),
-        small_survives s (omega arith),
-      )
-
-  pub squares_fit : squares_between (placed l p q) (placed m r s) < 2 ^ 64
-  squares_fit =
-      rw squares_are
-      (omega (
-        arith,
-        luv_squares (distance l m) (apart p r) (apart q s) (omega arith) (omega (arith, apart_size p r)) (omega (arith, apart_size q s)),
-      ))
+pub squares_fit : {l m : ℕ} {p q r s : ℤ} → Within l p q → Within m r s → squares (distance l m) (apart p r) (apart q s) < 2 ^ 64
+squares_fit {l} {m} {p} {q} {r} {s} A B =
+    omega (
+      arith,
+      luv_squares (distance l m) (apart p r) (apart q s) (omega arith) (omega (arith, apart_size p r)) (omega (arith, apart_size q s)),
+    )

@@ -7,7 +7,7 @@ use native.Mathlib.Omega.{arith}
 use borrow.Author.Tests.{ne_eqb}
 use lib.Dec.{eqb}
 use Rattle.cie.specs.declared.Sums.{Sums}
-use Rattle.cie.specs.declared.Chromaticity.TheVariants.{None, At}
+use Rattle.std.specs.Prelude.{Some, None}
 use Rattle.cie.specs.Colour.{tristimulus_scale, tristimulus_of, chromaticity_scale, xy_under, chromaticity_of, prime_scale}
 
 -- ── numbers of two digits in a base P ──
@@ -41,17 +41,17 @@ primes_fit x y z d hx hy hz e = omega arith
 pub prime_small : (k n d : ℕ) → 0 < d → k * n ≤ 4 * d → prime_scale * k * n < 2 ^ 26 * d
 prime_small k n d p h = omega arith
 
-pub tristimulus_is : (w s : Sums) (x y z : ℕ) →
-    x ≡ tristimulus_scale * s.x / (0 + w.y) → y ≡ tristimulus_scale * s.y / (0 + w.y) → z ≡ tristimulus_scale * s.z / (0 + w.y) →
+pub tristimulus_is : (w s : Sums) (yn x y z : ℕ) → yn ≡ 0 + w.y →
+    x ≡ tristimulus_scale * s.x / yn → y ≡ tristimulus_scale * s.y / yn → z ≡ tristimulus_scale * s.z / yn →
     record { x = x; y = y; z = z } ≡ tristimulus_of w s
 unfolding tristimulus_of
-tristimulus_is w s x y z e f g = rw (e, f, g, zero-add)
+tristimulus_is w s yn x y z d e f g = rw (e, f, g, d, zero-add)
 
 module _ (s : Sums) (d : ℕ) (e : d ≡ xy_under s) (b : Bool) (t : b ≡ eqb d 0) where
   pub no_chromaticity : b ≡ true → None ≡ chromaticity_of s
   unfolding chromaticity_of
   no_chromaticity h = rw (← e, ← t, h)
 
-  pub chromaticity_is : b ≡ false → (x y : ℕ) → x ≡ chromaticity_scale * s.x / d → y ≡ chromaticity_scale * s.y / d → At x y ≡ chromaticity_of s
+  pub chromaticity_is : b ≡ false → (x y : ℕ) → x ≡ chromaticity_scale * s.x / d → y ≡ chromaticity_scale * s.y / d → Some (record { x = x; y = y }) ≡ chromaticity_of s
   unfolding chromaticity_of
   chromaticity_is h x y f g = rw (← e, ← t, h, f, g)

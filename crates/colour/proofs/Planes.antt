@@ -5,14 +5,11 @@ use Prim.Native.Nat.{ℕ, ◌+◌, ◌*◌, ◌^◌, ◌≤◌, ◌<◌}
 use native.Mathlib.Nat.{mul-le-mul}
 use native.Mathlib.Omega.{arith}
 use lib.Dec.{eqb}
-use lib.IntN.{ℤ, pos, negsuc, nat_abs, ◌-ℤ◌, ◌*ℤ◌}
+use lib.IntN.{ℤ, pos, nat_abs, ◌-ℤ◌, ◌*ℤ◌}
 use lib.Signed.{quot_z, mag}
 use Rattle.wide.specs.Roots.{square_root}
-use Rattle.signed.specs.Apart.{apart}
-use Rattle.signed.proofs.Parts.{over, under, abs_parts, apart_parts}
 use Rattle.signed.proofs.Passed.{passed, survives}
 use Rattle.cie.specs.Colour.{prime, prime_scale, uv_factor, coordinate, chroma}
-use Rattle.cie.proofs.Lengths.{square_le}
 use Rattle.cie.proofs.Whites.{above_zero}
 
 -- ── a and b ──
@@ -42,25 +39,11 @@ module _ (S d : ℕ) (e : d ≡ S) (t : Bool) (z : t ≡ eqb d 0) where
 
 -- ── chroma ──
 
-apart_zero : (z : ℤ) → apart z (pos 0) ≡ nat_abs z
-unfolding over under
-apart_zero z = omega (arith, apart_parts z (pos 0), abs_parts z)
+-- x is the size of p, which fits 32 bits, as a program takes it
+size_is : (p : ℤ) (x : ℕ) → mag p < 2 ^ 31 → x ≡ nat_abs (passed p) → x ≡ nat_abs p
+size_is p x h e = e ∙ ap nat_abs (survives {z = p} h)
 
-abs_within : (z : ℤ) → mag z < 2 ^ 31 → nat_abs z ≤ 2 ^ 31
-abs_within (pos n) h = omega arith
-abs_within (negsuc n) h = h
-
--- x is the size of p, which fits 32 bits
-size_is : (p : ℤ) (x : ℕ) → mag p < 2 ^ 31 → x ≡ apart (passed p) (pos 0) → x ≡ nat_abs p
-size_is p x h e = e ∙ ap (λ (z : ℤ). apart z (pos 0)) (survives {z = p} h) ∙ apart_zero p
-
-module _ (p q : ℤ) (x y : ℕ) (h : mag p < 2 ^ 31) (k : mag q < 2 ^ 31) (e : x ≡ apart (passed p) (pos 0)) (f : y ≡ apart (passed q) (pos 0)) where
-  pub chroma_fits : x * x + y * y < 2 ^ 64
-  chroma_fits =
-      let a : x ≤ 2 ^ 31 = rw (size_is p x h e) (abs_within p h) in
-      let b : y ≤ 2 ^ 31 = rw (size_is q y k f) (abs_within q k) in
-      omega (arith, square_le a, square_le b)
-
-  pub chroma_is : (r : ℕ) → r ≡ square_root (x * x + y * y) → r ≡ chroma p q
-  unfolding chroma
-  chroma_is r i = rw (← size_is p x h e, ← size_is q y k f) i
+pub chroma_is : (p q : ℤ) (x y : ℕ) → mag p < 2 ^ 31 → mag q < 2 ^ 31 → x ≡ nat_abs (passed p) → y ≡ nat_abs (passed q) →
+    (r : ℕ) → r ≡ square_root (x * x + y * y) → r ≡ chroma p q
+unfolding chroma
+chroma_is p q x y h k e f r i = rw (← size_is p x h e, ← size_is q y k f) i

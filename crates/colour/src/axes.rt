@@ -4,16 +4,27 @@ ghost use Rattle.cie.specs.Sums.{White, AtMostTwice};
 ghost use Rattle.cie.specs.Colour.{step_at, a_at, b_at, u_of, v_of, l_at, chroma};
 ghost use Rattle.colour.specs.White.{white_point_of};
 
-use crate::ratios::{U_FACTOR, V_FACTOR};
+use crate::ratios::{PRIME_SCALE, U_FACTOR, V_FACTOR};
 use crate::white::WhitePoint;
 use crate::{ratios, steps};
 use cie::Sums;
 
 // A pair of coordinates, in 1/10,000.
-#[derive(Clone, Copy)]
+#[derive(Clone, Copy, Debug, PartialEq, Eq)]
 pub struct Plane {
     pub p: i32,
     pub q: i32,
+}
+
+impl Plane {
+    // The chroma of the pair.
+    pub fn chroma(self) -> u32
+        ensures { result ≡ chroma self.p self.q }
+    {
+        let p = self.p.unsigned_abs() as u64;
+        let q = self.q.unsigned_abs() as u64;
+        wide::roots::square_root(p * p + q * q)
+    }
 }
 
 const A_FACTOR: u32 = 5;
@@ -21,8 +32,6 @@ const A_FACTOR: u32 = 5;
 const B_FACTOR: u32 = 2;
 
 const UV_FACTOR: u32 = 13;
-
-const PRIME_SCALE: u32 = 10000000;
 
 pub fn ab_of(s: Sums, w: Sums, y: u32) -> Plane
     requires { White w × AtMostTwice w s × (y ≡ step_at 1 s.y w.y) }
@@ -50,13 +59,4 @@ pub fn uv_of(s: Sums, l: u32, white: WhitePoint) -> Plane
         p: signed::share(UV_FACTOR * l, u, white.u, PRIME_SCALE),
         q: signed::share(UV_FACTOR * l, v, white.v, PRIME_SCALE),
     }
-}
-
-// The chroma of a pair of coordinates.
-pub fn chroma_of(c: Plane) -> u32
-    ensures { result ≡ chroma c.p c.q }
-{
-    let p = signed::apart_of(c.p, 0) as u64;
-    let q = signed::apart_of(c.q, 0) as u64;
-    wide::roots::square_root(p * p + q * q)
 }

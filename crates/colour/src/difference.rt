@@ -3,16 +3,36 @@ ghost use Rattle.std.specs.Prelude.{◌≡◌, ◌^◌, ◌<◌};
 ghost use Rattle.wide.specs.Roots.{square_root};
 ghost use Rattle.cie.specs.Colour.{lab_difference, luv_difference};
 ghost use Rattle.cie.specs.Sizes.{Sized};
-ghost use Rattle.colour.specs.Places.{squares_between};
+ghost use Rattle.colour.specs.Places.{lab_place, luv_place, squares_between};
 
 use cie::{Colour, LabUnits, LuvUnits};
 
 // A place in one of the spaces: L and its pair of coordinates.
-#[derive(Clone, Copy)]
+#[derive(Clone, Copy, Debug, PartialEq, Eq)]
 struct Place {
     l: u32,
     p: i32,
     q: i32,
+}
+
+fn lab_place(c: Colour) -> Place
+    ensures { result ≡ lab_place c }
+{
+    Place {
+        l: c.l,
+        p: c.a,
+        q: c.b,
+    }
+}
+
+fn luv_place(c: Colour) -> Place
+    ensures { result ≡ luv_place c }
+{
+    Place {
+        l: c.l,
+        p: c.u,
+        q: c.v,
+    }
 }
 
 // The length of the way from one place to another, down.
@@ -20,9 +40,9 @@ fn length_between(m: Place, n: Place) -> u32
     requires { squares_between m n < 2 ^ 64 }
     ensures { result ≡ square_root (squares_between m n) }
 {
-    let l = signed::distance_of(m.l, n.l) as u64;
-    let p = signed::apart_of(m.p, n.p) as u64;
-    let q = signed::apart_of(m.q, n.q) as u64;
+    let l = m.l.abs_diff(n.l) as u64;
+    let p = m.p.abs_diff(n.p) as u64;
+    let q = m.q.abs_diff(n.q) as u64;
     wide::roots::square_root(l * l + p * p + q * q)
 }
 
@@ -31,17 +51,7 @@ pub fn lab_difference(p: Colour, q: Colour) -> LabUnits
     requires { Sized p × Sized q }
     ensures { result ≡ lab_difference p q }
 {
-    let from = Place {
-        l: p.l,
-        p: p.a,
-        q: p.b,
-    };
-    let to = Place {
-        l: q.l,
-        p: q.a,
-        q: q.b,
-    };
-    LabUnits(length_between(from, to))
+    LabUnits(length_between(lab_place(p), lab_place(q)))
 }
 
 // E in CIELUV.
@@ -49,15 +59,5 @@ pub fn luv_difference(p: Colour, q: Colour) -> LuvUnits
     requires { Sized p × Sized q }
     ensures { result ≡ luv_difference p q }
 {
-    let from = Place {
-        l: p.l,
-        p: p.u,
-        q: p.v,
-    };
-    let to = Place {
-        l: q.l,
-        p: q.u,
-        q: q.v,
-    };
-    LuvUnits(length_between(from, to))
+    LuvUnits(length_between(luv_place(p), luv_place(q)))
 }

@@ -18,7 +18,7 @@ mod steps;
 pub mod white;
 
 // L, a, b, u and v of a colour, in 1/10,000.
-#[derive(Clone, Copy)]
+#[derive(Clone, Copy, Debug, PartialEq, Eq)]
 pub struct Coordinates {
     pub l: u32,
     pub a: i32,
@@ -68,7 +68,7 @@ pub fn colour_of(sums: Sums, white: WhitePoint) -> Colour
         b: c.b,
         u: c.u,
         v: c.v,
-        cab: axes::chroma_of(Plane { p: c.a, q: c.b }),
-        cuv: axes::chroma_of(Plane { p: c.u, q: c.v }),
+        cab: Plane { p: c.a, q: c.b }.chroma(),
+        cuv: Plane { p: c.u, q: c.v }.chroma(),
     }
 }

@@ -12,7 +12,8 @@ const TRISTIMULUS_SCALE: u64 = 1000000;
 
 const CHROMATICITY_SCALE: u64 = 1000000;
 
-const PRIME_SCALE: u64 = 10000000;
+// u' and v' count 1 / 10,000,000.
+pub const PRIME_SCALE: u32 = 10000000;
 
 // The factors of X in u' and of Y in v'.
 pub const U_FACTOR: u64 = 4;
@@ -23,7 +24,7 @@ pub fn tristimulus_of(s: Sums, w: Sums) -> Tristimulus
     requires { White w × AtMostTwice w s }
     ensures { result ≡ tristimulus_of w s }
 {
-    let yn = Wide { hi: 0, lo: w.y };
+    let yn = Wide::from(w.y);
     Tristimulus {
         x: ratio(TRISTIMULUS_SCALE, s.x, yn),
         y: ratio(TRISTIMULUS_SCALE, s.y, yn),
@@ -35,37 +36,34 @@ pub fn tristimulus_of(s: Sums, w: Sums) -> Tristimulus
 fn xy_under(s: Sums) -> Wide
     ensures { value result ≡ xy_under s }
 {
-    let xy = wide::sum(Wide { hi: 0, lo: s.x }, Wide { hi: 0, lo: s.y });
-    wide::sum(xy, Wide { hi: 0, lo: s.z })
+    let xy = wide::sum(Wide::from(s.x), Wide::from(s.y));
+    wide::sum(xy, Wide::from(s.z))
 }
 
 pub fn is_zero(n: Wide) -> bool
     ensures { result ≡ eqb (value n) 0 }
 {
-    if n.hi != 0 {
-        return false;
-    }
-    n.lo == 0
+    n.hi == 0 && n.lo == 0
 }
 
-pub fn chromaticity_of(s: Sums) -> Chromaticity
+pub fn chromaticity_of(s: Sums) -> Option<Chromaticity>
     ensures { result ≡ chromaticity_of s }
 {
     let sum = xy_under(s);
     if is_zero(sum) {
-        return Chromaticity::None;
+        return None;
     }
-    Chromaticity::At(
-        ratio(CHROMATICITY_SCALE, s.x, sum),
-        ratio(CHROMATICITY_SCALE, s.y, sum),
-    )
+    Some(Chromaticity {
+        x: ratio(CHROMATICITY_SCALE, s.x, sum),
+        y: ratio(CHROMATICITY_SCALE, s.y, sum),
+    })
 }
 
 // X + 15 Y + 3 Z.
 pub fn uv_under(s: Sums) -> Wide
     ensures { value result ≡ uv_under s }
 {
-    let xy = wide::sum(Wide { hi: 0, lo: s.x }, wide::product(15, s.y));
+    let xy = wide::sum(Wide::from(s.x), wide::product(15, s.y));
     wide::sum(xy, wide::product(3, s.z))
 }
 
@@ -74,5 +72,5 @@ pub fn prime(k: u64, n: u64, under: Wide) -> u32
     requires { (k ≤ 9) × (0 < value under) × (value under < 2 ^ 80) × (k * n ≤ 4 * value under) }
     ensures { result ≡ prime (k * n) (value under) }
 {
-    ratio(PRIME_SCALE * k, n, under)
+    ratio(PRIME_SCALE as u64 * k, n, under)
 }

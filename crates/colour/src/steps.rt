@@ -45,13 +45,14 @@ pub fn step(n: u64, d: u64) -> u32
     ensures { result ≡ step_at 1 n d }
 {
     if is_dim(n, d) {
-        return straight(STEP_SCALE, n, d);
+        straight(STEP_SCALE, n, d)
+    } else {
+        cube_root_near(guesses::cube_root(n, d), STEP_SCALE, n, d)
     }
-    cube_root_near(guesses::cube_root(n, d), STEP_SCALE, n, d)
 }
 
 // Of one ratio: 1,000,000 × f, and 10,000 × L*.
-#[derive(Clone, Copy)]
+#[derive(Clone, Copy, Debug, PartialEq, Eq)]
 pub struct Lightness {
     pub step: u32,
     pub l: u32,

@@ -5,3 +5,4 @@ pub mod Sound
 pub mod Opening
 pub mod Answers
 pub mod Measuring
+pub mod Preparing

@@ -4,8 +4,8 @@ use mathlib.Core.List.{List}
 use Prim.Native.Nat.{ℕ, ◌*◌, ◌≤◌}
 use native.Mathlib.Omega.{arith}
 use Rattle.causes.specs.declared.Cause.{Cause}
-use Rattle.causes.specs.declared.Checked.TheVariants.{Clear, Because}
-use Rattle.causes.specs.Causes.{cause_number}
+use Rattle.std.specs.Prelude.{Result, Ok, Err}
+use Rattle.causes.specs.Causes.{cause_number, answer_of}
 use Rattle.causes.specs.Checks.{first_of}
 use Rattle.causes.proofs.Checks.{clear_at, numbered_refused, numbered_accepted}
 use Rattle.cie.specs.declared.Sums.{Sums}
@@ -19,18 +19,16 @@ use Rattle.cie.proofs.Scales.{above_wider}
 use Rattle.cie.proofs.Sizes.{colour_sized}
 use Rattle.colour.specs.White.{white_point_of}
 use Rattle.conditions.specs.declared.Conditions.{Conditions}
-use Rattle.conditions.specs.declared.measure.Measured.{Measured}
-use Rattle.conditions.specs.declared.measure.Measured.TheVariants.{Whole, Refused}
 use Rattle.conditions.specs.Weights.{dot, dots, white_readings, Spectrum, Weights}
 use Rattle.conditions.specs.Checks.{spectrum_checks}
 use Rattle.conditions.specs.Conditions.{Sound}
-use Rattle.conditions.specs.Measure.{measure_answer, measured_by, colour_under}
+use Rattle.conditions.specs.Measure.{measured_by, colour_under}
 use Rattle.conditions.proofs.Dots.{twice}
 use Rattle.conditions.proofs.Fits.{long}
 
 -- readings that pass their checks
 pub spectrum_of_lem : (limit rows : ℕ) (readings : List ℕ) → limit ≤ reader_limit → rows ≤ most_rows →
-    first_of (spectrum_checks limit rows readings) ≡ Clear → Spectrum readings
+    first_of (spectrum_checks limit rows readings) ≡ Ok tt → Spectrum readings
 spectrum_of_lem limit rows readings h k e =
     record {
       few = omega (arith, k, long rows readings (clear_at _ e 0));
@@ -68,19 +66,19 @@ module _ {c : Conditions} (s : Sound c) {readings : List ℕ} (r : Spectrum read
   sums_sized e k = subst Sized (sym (colour_by e k)) sized_under
 
 -- what a measuring answer says of its checks
-module _ (limit rows : ℕ) (x y z readings : List ℕ) {m : Measured} (e : measure_answer m ≡ measured_by limit rows x y z readings) where
-  pub measured_refused : {c : Cause} → m ≡ Refused c →
-      (d : Cause) × (first_of (spectrum_checks limit rows readings) ≡ Because d) × (cause_number d ≡ cause_number c)
+module _ (limit rows : ℕ) (x y z readings : List ℕ) {m : Result Sums Cause} (e : answer_of m ≡ measured_by limit rows x y z readings) where
+  pub measured_refused : {c : Cause} → m ≡ Err c →
+      (d : Cause) × (first_of (spectrum_checks limit rows readings) ≡ Err d) × (cause_number d ≡ cause_number c)
   unfolding measured_by
-  measured_refused told = numbered_refused _ (dots x y z readings) _ (sym e ∙ ap measure_answer told)
+  measured_refused told = numbered_refused _ (dots x y z readings) _ (sym e ∙ ap answer_of told)
 
-  pub measured_whole : {s : Sums} → m ≡ Whole s → (first_of (spectrum_checks limit rows readings) ≡ Clear) × (s ≡ dots x y z readings)
+  pub measured_whole : {s : Sums} → m ≡ Ok s → (first_of (spectrum_checks limit rows readings) ≡ Ok tt) × (s ≡ dots x y z readings)
   unfolding measured_by
-  measured_whole told = numbered_accepted _ (dots x y z readings) _ (sym e ∙ ap measure_answer told)
+  measured_whole told = numbered_accepted _ (dots x y z readings) _ (sym e ∙ ap answer_of told)
 
 -- measured sums under sound conditions
-module _ (c : Conditions) (s : Sound c) (limit : ℕ) (h : limit ≤ reader_limit) (readings : List ℕ) {m : Measured} {sums : Sums}
-    (e : measure_answer m ≡ measured_by limit c.rows c.x c.y c.z readings) (told : m ≡ Whole sums) where
+module _ (c : Conditions) (s : Sound c) (limit : ℕ) (h : limit ≤ reader_limit) (readings : List ℕ) {m : Result Sums Cause} {sums : Sums}
+    (e : answer_of m ≡ measured_by limit c.rows c.x c.y c.z readings) (told : m ≡ Ok sums) where
   pub measured_ready : Ready c sums
   measured_ready =
       let w = measured_whole limit c.rows _ _ _ readings e told in

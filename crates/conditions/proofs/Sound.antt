@@ -7,7 +7,7 @@ use Prim.Native.Nat.{ℕ, zero, suc, ◌+◌, ◌*◌, ◌≤◌}
 use native.Mathlib.Omega.{arith}
 use lib.Dec.{eqb, lit≤}
 use lib.ListN.{length, replicate}
-use Rattle.causes.specs.declared.Checked.TheVariants.{Clear}
+use Rattle.std.specs.Prelude.{Ok}
 use Rattle.causes.specs.Checks.{first_of}
 use Rattle.causes.proofs.Checks.{clear_at}
 use Rattle.cie.specs.declared.Sums.{Sums}
@@ -41,7 +41,7 @@ white_same t h =
     sums_same t white_readings
     ∙ rw (row_white most_rows i t.x h, row_white most_rows i t.y h, row_white most_rows i t.z h)
 
-pub sound_tables : (t : Tables) → first_of (table_checks t) ≡ Clear → Sound (conditions_of t)
+pub sound_tables : (t : Tables) → first_of (table_checks t) ≡ Ok tt → Sound (conditions_of t)
 sound_tables t e =
     let f = fit t (clear_at _ e 1) (clear_at _ e 2) in
     let i = f.illuminant in
@@ -78,7 +78,7 @@ sound_none =
 abbrev built_in : Bool → ℕ → Tables
 built_in a spacing = observed spacing (table_at spacing (cond a illuminant_a illuminant_d65))
 
-clear_of : (a b : Bool) → first_of (table_checks (built_in a (cond b fine_spacing coarse_spacing))) ≡ Clear
+clear_of : (a b : Bool) → first_of (table_checks (built_in a (cond b fine_spacing coarse_spacing))) ≡ Ok tt
 unfolding first_of any_above white_of sums_of row_sum rows_at table_at every_second illuminant_a illuminant_d65 observer_x observer_y observer_z
 clear_of true true = refl
 clear_of true false = refl
@@ -86,7 +86,7 @@ clear_of false true = refl
 clear_of false false = refl
 
 -- the built-in lights pass all the checks of tables
-pub light_clear : (light spacing : ℕ) → unknown_spacing spacing ≡ false → first_of (table_checks (light_tables light spacing)) ≡ Clear
+pub light_clear : (light spacing : ℕ) → unknown_spacing spacing ≡ false → first_of (table_checks (light_tables light spacing)) ≡ Ok tt
 light_clear light spacing h =
     ⊎_elim (λ e. rw e (clear_of (eqb light light_a) true)) (λ e. rw e (clear_of (eqb light light_a) false)) (spacing_known spacing h)
 

@@ -1,8 +1,7 @@
 -- What an opening prepares of tables that pass their checks. Assumes nothing.
-use Rattle.std.specs.Prelude.{◌≡◌, List, ℕ, ◌≤◌, replicate}
-use Rattle.causes.specs.declared.Checked.{Checked}
-use Rattle.causes.specs.declared.Checked.TheVariants.{Clear, Because}
-use Rattle.causes.specs.Causes.{Numbered, accepted, refused, refusal}
+use Rattle.std.specs.Prelude.{◌≡◌, List, ℕ, ◌≤◌, replicate, Result, IfOk}
+use Rattle.causes.specs.declared.Cause.{Cause}
+use Rattle.causes.specs.Causes.{Numbered, answer_of}
 use Rattle.causes.specs.Checks.{first_of, numbered}
 use Rattle.cie.specs.Spacing.{most_rows, rows_at}
 use Rattle.cie.specs.Scales.{white_reading}
@@ -11,7 +10,6 @@ use Rattle.cie.specs.Lights.{light_tables}
 use Rattle.colour.specs.declared.white.WhitePoint.{WhitePoint}
 use Rattle.colour.specs.White.{white_point_of}
 use Rattle.conditions.specs.declared.Conditions.{Conditions}
-use Rattle.conditions.specs.declared.Prepared.{Prepared}
 use Rattle.conditions.specs.Weights.{weights_of, dot, white_readings, Weights}
 use Rattle.conditions.specs.Checks.{table_checks, light_checks}
 
@@ -41,19 +39,7 @@ no_conditions =
       white = white_point_of (record { x = white_reading; y = white_reading; z = white_reading });
     }
 
--- what preparing answers, in the paper's numbers: the conditions, or the number of the cause that stands beside them
-abbrev pub checked_answer : Checked → Conditions → Numbered Conditions
-checked_answer Clear c = accepted c
-checked_answer (Because cause) c = refusal cause
-
-abbrev pub prepare_answer : Prepared → Numbered Conditions
-prepare_answer p = checked_answer p.checked p.conditions
-
--- the conditions of such an answer: none where it is refused
-abbrev pub conditions_in : Numbered Conditions → Conditions
-conditions_in (accepted c) = c
-conditions_in (refused n) = no_conditions
-
+-- what preparing answers, in the paper's numbers: the conditions, or the number of the cause against them
 abbrev pub prepared_of : Tables → Numbered Conditions
 prepared_of t = numbered (first_of (table_checks t)) (conditions_of t)
 
@@ -72,8 +58,7 @@ pub record Sound (c : Conditions) : Type 0 where
   pub point : c.white ≡ white_point_of c.white.sums
   pub white : White c.white.sums
 
--- what a preparation promises: its answer, the conditions beside it, and that they are sound
-pub record Prepares (n : Numbered Conditions) (p : Prepared) : Type 0 where
-  pub answer : prepare_answer p ≡ n
-  pub beside : p.conditions ≡ conditions_in n
-  pub sound : Sound p.conditions
+-- what a preparation promises: its answer, and that its conditions are sound
+pub record Prepares (n : Numbered Conditions) (r : Result Conditions Cause) : Type 0 where
+  pub answer : answer_of r ≡ n
+  pub sound : IfOk r Sound

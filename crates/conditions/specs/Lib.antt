@@ -2,3 +2,4 @@ pub mod Weights
 pub mod Checks
 pub mod Conditions
 pub mod Measure
+pub mod Lent

@@ -1,31 +1,17 @@
 -- Measuring a spectrum under conditions: its checks, then the sums, then the colour of the sums. Assumes nothing.
 use Rattle.std.specs.Prelude.{List, ℕ}
-use Rattle.causes.specs.declared.Cause.{Cause}
-use Rattle.causes.specs.declared.Cause.TheVariants.{ShortTable}
-use Rattle.causes.specs.Causes.{Numbered, accepted, refusal}
+use Rattle.causes.specs.Causes.{Numbered}
 use Rattle.causes.specs.Checks.{first_of, numbered}
 use Rattle.cie.specs.declared.Sums.{Sums}
 use Rattle.cie.specs.declared.Colour.{Colour}
 use Rattle.cie.specs.Colour.{colour_of}
 use Rattle.conditions.specs.declared.Conditions.{Conditions}
-use Rattle.conditions.specs.declared.measure.Measured.{Measured}
-use Rattle.conditions.specs.declared.measure.Measured.TheVariants.{Whole, Refused}
 use Rattle.conditions.specs.Weights.{dots}
 use Rattle.conditions.specs.Checks.{spectrum_checks}
-
--- what measuring answers, in the paper's numbers: the sums, or the number of the cause
-abbrev pub measure_answer : Measured → Numbered Sums
-measure_answer (Whole sums) = accepted sums
-measure_answer (Refused cause) = refusal cause
 
 -- the sums by weights x, y, z, or the cause against readings under a limit that should have so many rows
 unfoldable pub measured_by : ℕ → ℕ → List ℕ → List ℕ → List ℕ → List ℕ → Numbered Sums
 measured_by limit rows x y z readings = numbered (first_of (spectrum_checks limit rows readings)) (dots x y z readings)
-
--- the cause in a measuring answer that has one
-abbrev pub cause_in : Measured → Cause
-cause_in (Whole sums) = ShortTable
-cause_in (Refused cause) = cause
 
 -- the colour of a spectrum under conditions
 abbrev pub colour_under : Conditions → List ℕ → Colour

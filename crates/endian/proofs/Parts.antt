@@ -2,11 +2,12 @@
 use mathlib.Core.Path.{◌≡◌, refl, sym, ap, ◌∙◌}
 use Prim.Native.Nat.{ℕ, zero, suc, ◌+◌, ◌*◌, ◌/◌, ◌%◌, ◌^◌, ◌≤◌, ◌<◌}
 use native.Mathlib.Omega.{arith}
-use native.Mathlib.Nat.{pow-succ', div-div-eq-div-mul, mod-mod}
+use native.Mathlib.Nat.{pow-succ', div-div-eq-div-mul}
 use native.Mathlib.Numerals.{add-one}
 use mathlib.Core.List.{List, [], ◌∷◌, ◌++◌}
 use lib.ListN.{length, get_or, take, drop, length-drop}
 use lib.Seq.{drop-cons, drop-drop, take-add, take_at, take-length, length-take-le, get_or-drop, drop-append-add}
+use Rattle.std.specs.Int.{w16, w32, from_le_bytes, to_le_bytes}
 use Rattle.endian.specs.Bytes.{little_endian, le16, le32, from_little_endian, part, number_at, at16, at32, AllBelow}
 
 pub length-little_endian : (k n : ℕ) → length (little_endian k n) ≡ k
@@ -31,11 +32,6 @@ little_endian_from (x ∷ l) b =
     let m : (x + 256 * from_little_endian l) % 256 ≡ x = omega (arith, b 0) in
     let d : (x + 256 * from_little_endian l) / 256 ≡ from_little_endian l = omega (arith, b 0) in
     rw (m, d, little_endian_from l (tail_below l b))
-
-join_bytes : (p q : List ℕ) → from_little_endian (p ++ q) ≡ from_little_endian p + 256 ^ length p * from_little_endian q
-unfolding from_little_endian
-join_bytes [] q = omega arith
-join_bytes (x ∷ p) q = omega (arith, join_bytes p q, ap (λ (t : ℕ). t * from_little_endian q) (pow-succ' 256 (length p)))
 
 -- parts
 pub part_join : (s : List ℕ) (at n m : ℕ) → part s at n ++ part s (at + n) m ≡ part s at (n + m)
@@ -92,32 +88,32 @@ module _ (s : List ℕ) (b : AllBelow 256 s) (k at : ℕ) (h : at + k ≤ length
   little_endian-number_at =
       ap (λ (i : ℕ). little_endian i (from_little_endian (part s at k))) (sym (length_part s at k h)) ∙ little_endian_from (part s at k) (below_part s at k b)
 
--- the numbers as the code makes them
-pub at16_is : (s : List ℕ) (at : ℕ) → at + 2 ≤ length s → get_or s at 0 + 256 * get_or s (at + 1) 0 ≡ at16 s at
+-- the library's bytes of a number, and its number of some bytes
+pub at16_is : (s : List ℕ) (at : ℕ) → at + 2 ≤ length s → from_le_bytes w16 (get_or s at 0 ∷ get_or s (at + 1) 0 ∷ []) ≡ at16 s at
 unfolding number_at from_little_endian
 at16_is s at h =
-    let second : part s (at + 1) 1 ≡ get_or s (at + 1) 0 ∷ [] =
-    part_one s (at + 1) 0 (omega arith) ∙ ap (λ (l : List ℕ). get_or s (at + 1) 0 ∷ l) (part_none s (at + 1 + 1)) in
-    let both : part s at 2 ≡ get_or s at 0 ∷ get_or s (at + 1) 0 ∷ [] = part_one s at 1 (omega arith) ∙ ap (λ (l : List ℕ). get_or s at 0 ∷ l) second in
-    rw both (omega arith)
+    rw (part_one s at 1 (omega arith), part_one s (at + 1) 0 (omega arith), part_none s (at + 1 + 1)) (omega arith)
 
-pub at32_is : (s : List ℕ) (at : ℕ) → at + 4 ≤ length s → at16 s at + 65536 * at16 s (at + 2) ≡ at32 s at
-unfolding number_at
+pub at32_is : (s : List ℕ) (at : ℕ) → at + 4 ≤ length s
+    → from_le_bytes w32 (get_or s at 0 ∷ get_or s (at + 1) 0 ∷ get_or s (at + 2) 0 ∷ get_or s (at + 3) 0 ∷ []) ≡ at32 s at
+unfolding number_at from_little_endian
 at32_is s at h =
-    let l : length (part s at 2) ≡ 2 = length_part s at 2 (omega arith) in
-    sym
-    (ap from_little_endian (sym (part_join s at 2 2))
-    ∙ join_bytes (part s at 2) (part s (at + 2) 2)
-    ∙ ap (λ (k : ℕ). from_little_endian (part s at 2) + 256 ^ k * from_little_endian (part s (at + 2) 2)) l)
+    let e : at + 1 + 1 ≡ at + 2 = omega arith in
+    let f : at + 2 + 1 ≡ at + 3 = omega arith in
+    rw (
+      part_one s at 3 (omega arith),
+      part_one s (at + 1) 2 (omega arith),
+      e,
+      part_one s (at + 2) 1 (omega arith),
+      f,
+      part_one s (at + 3) 0 (omega arith),
+      part_none s (at + 3 + 1),
+    ) (omega arith)
 
-pub le16_is : (x : ℕ) → x < 65536 → (x % 256) ∷ (x / 256) ∷ [] ≡ le16 x
+pub le16_is : (x : ℕ) → to_le_bytes w16 x ≡ le16 x
 unfolding little_endian
-le16_is x h = let e : x / 256 % 256 ≡ x / 256 = omega arith in rw e
+le16_is x = refl
 
-pub le32_is : (x : ℕ) → le16 (x % 65536) ++ le16 (x / 65536) ≡ le32 x
+pub le32_is : (x : ℕ) → to_le_bytes w32 x ≡ le32 x
 unfolding little_endian
-le32_is x =
-    let c : x / 65536 ≡ x / 256 / 256 = sym (div-div-eq-div-mul x 256 256) in
-    let a : x % 65536 % 256 ≡ x % 256 = omega arith in
-    let b : x % 65536 / 256 ≡ x / 256 % 256 = omega arith in
-    rw (a, b, mod-mod (x / 256) 256, c)
+le32_is x = simp div-div-eq-div-mul

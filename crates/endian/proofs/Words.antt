@@ -5,10 +5,11 @@ use native.Mathlib.Omega.{arith}
 use native.Mathlib.Nat.{add_assoc, add-zero}
 use native.Mathlib.Numerals.{add-one}
 use mathlib.Core.List.{List, [], ◌∷◌, ◌++◌, append_assoc}
+use Rattle.std.proofs.lemmas.List.{set_at, take_more, length-take-le}
 use lib.ListN.{length, get_or, set, take, drop, take-append-drop, drop_of_length-le}
 use lib.Seq.{sets, drop-cons, drop-drop, take_at, drop_at, get_or-drop}
 use Rattle.endian.specs.Bytes.{little_endian, le16, from_little_endian, number_at, at16, part, words, bytes_of, AllBelow}
-use Rattle.stores.proofs.Runs.{sets_then}
+use Rattle.stores.proofs.Runs.{sets_append}
 use Rattle.endian.proofs.Parts.{length-little_endian, little_endian-number_at, number_at-behind, number_at-front, part_join, part_none, tail_below}
 
 -- the words at a step
@@ -109,21 +110,22 @@ bytes_of-words s b zero at h = sym (part_none s at)
 bytes_of-words s b (suc n) at h =
     rw (little_endian-number_at s b 2 at (omega arith), bytes_of-words s b n (at + 2) (omega arith)) (part_join s at 2 (2 * n) ∙ ap (part s at) (omega arith))
 
--- one turn of the loop that stores words, and its end
-pub words_store : (s d : List ℕ) (at step j m : ℕ) {n : ℕ} → n ≡ suc m → {x : ℕ} → x ≡ at16 s at
-    → sets (set d j x) (j + 1) (words s (at + step) step m) ≡ sets d j (words s at step n)
-words_store s d at step j m e p = rw (words_first s at step m e, p, add-one)
+-- one turn of the loop that reads words
+pub words_read : (s d : List ℕ) (at n : ℕ) → n < length d
+    → set (words s at 2 n ++ drop n d) n (at16 s (at + 2 * n)) ≡ words s at 2 (n + 1) ++ drop (n + 1) d
+unfolding words
+words_read s d at n h =
+    let next : List ℕ = at16 s (at + 2 * n) ∷ [] in
+    rw (drop-cons d n 0 h, set_at (words s at 2 n) (get_or d n 0) (drop (suc n) d) (at16 s (at + 2 * n)) n (length-words s at 2 n), words_add s n 1 at 2, add-one)
+    (sym (append_assoc (words s at 2 n) next (drop (suc n) d)))
 
-pub words_stored : (s d : List ℕ) (at step j n : ℕ) → n ≤ 0 → sets d j (words s at step n) ≡ d
-words_stored s d at step j n h = rw (words_none s at step n h)
-
--- one turn of the loop that stores the bytes of numbers, and its end
-pub bytes_of-store : (d : List ℕ) (at i : ℕ) (l : List ℕ) → i < length l
-    → sets (sets d at (le16 (get_or l i 0))) (at + 2) (bytes_of (drop (i + 1) l)) ≡ sets d at (bytes_of (drop i l))
-unfolding bytes_of
-bytes_of-store d at i l h =
-    sets_then d at 2 (le16 (get_or l i 0)) (bytes_of (drop (i + 1) l)) (length-little_endian 2 (get_or l i 0))
-    ∙ rw (drop-cons l i 0 h, add-one)
+-- one turn of the loop that writes words
+pub bytes_of_written : (d ws : List ℕ) (i : ℕ) → i < length ws
+    → sets (sets d 0 (bytes_of (take i ws))) (2 * i) (le16 (get_or ws i 0)) ≡ sets d 0 (bytes_of (take (i + 1) ws))
+unfolding bytes_of little_endian
+bytes_of_written d ws i h =
+    let n : 0 + length (bytes_of (take i ws)) ≡ 2 * i = omega (arith, length-bytes_of (take i ws), length-take-le i ws (omega arith)) in
+    rw (take_more ws i 0 h, bytes_of-append, sets_append, n)
 
 pub bytes_of-stored : (d : List ℕ) (at i : ℕ) (l : List ℕ) → length l ≤ i → sets d at (bytes_of (drop i l)) ≡ d
 unfolding bytes_of

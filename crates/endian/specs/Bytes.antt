@@ -1,5 +1,6 @@
 -- Little-endian numbers in a list of bytes. Assumes nothing.
-use Rattle.std.specs.Prelude.{ℕ, zero, suc, ◌+◌, ◌-◌, ◌*◌, ◌/◌, ◌%◌, ◌^◌, ◌<◌, List, [], ◌∷◌, ◌++◌, get_or, take, drop, ℤ, pos, negsuc}
+use Rattle.std.specs.Prelude.{ℕ, zero, suc, ◌+◌, ◌*◌, ◌/◌, ◌%◌, ◌<◌, List, [], ◌∷◌, ◌++◌, get_or, take, drop, ℤ}
+use Rattle.std.specs.Int.{w32, cast_unsigned}
 
 -- n in k bytes, the lowest first
 unfoldable pub little_endian : ℕ → ℕ → List ℕ
@@ -43,8 +44,7 @@ bytes_of (x ∷ xs) = le16 x ++ bytes_of xs
 
 -- a signed number's 32 bits, as a number: two's complement
 abbrev pub twos : ℤ → ℕ
-twos (pos n) = n
-twos (negsuc n) = 2 ^ 32 - suc n
+twos z = cast_unsigned w32 z
 
 -- every number of a list is below m
 abbrev pub AllBelow : ℕ → List ℕ → Type 0

@@ -1,7 +1,8 @@
 // Guesses of roots and quotients. Nothing is promised of a guess but its size: a wrong one costs time, and never the answer.
 #![tactic(auto)]
 
-ghost use Rattle.std.specs.Prelude.{◌^◌, ◌≤◌, ◌<◌};
+ghost use Rattle.std.specs.Prelude.{◌^◌, ◌≤◌, ◌<◌, All};
+ghost use Rattle.std.specs.List.Sorted.{IsNonDecreasing};
 
 // A word has two halves, each below 2^32.
 const HALF: u64 = 4294967296;
@@ -22,12 +23,17 @@ fn part(r: u32, t: u32) -> u32
     (r as u64 * t as u64 / HALF) as u32
 }
 
-// c less r × t.
-fn less(c: u32, r: u32, t: u32) -> u32
-    requires { r ≤ c }
-    ensures { result ≤ c }
+// The polynomial r_1 t − r_2 t² + r_3 t³ − .., its last coefficient first.
+fn alternating(coefficients: &[u32], t: u32) -> u32
+    requires rising { IsNonDecreasing coefficients.now }
+    requires below { All (λ c. c < 2 ^ 31) coefficients.now }
+    ensures { result < 2 ^ 31 }
 {
-    c - part(r, t)
+    let mut r: u32 = 0;
+    for c in coefficients {
+        r = *c - part(r, t);
+    }
+    part(r, t)
 }
 
 // The digits after the leading one of x, which has z zeros before it: t, where x is 2^(63 - z) × (1 + t / 2^32).
@@ -41,15 +47,12 @@ fn fraction(x: u64, z: u32) -> u32
 fn excess(z: u32) -> u32
     ensures { result ≤ 32 }
 {
-    if z < 32 {
-        return 32 - z;
-    }
-    0
+    32u32.saturating_sub(z)
 }
 
 // About 2^30 × n / d, where that is below 2^34.
 fn ratio(n: u64, d: u64) -> u64 {
-    let s = excess(u64::leading_zeros(d));
+    let s = excess(d.leading_zeros());
     let e = d >> s;
     if e == 0 {
         return 0;
@@ -75,29 +78,23 @@ fn cube_scale(z: u32) -> u32 {
 
 // About 2^30 × the cube root of 1 + t / 2^32: a polynomial, within 4 parts in 10^8, and a little above.
 fn cube_part(t: u32) -> u32 {
-    let r6 = less(8597100, 1610546, t);
-    let r5 = less(22181123, r6, t);
-    let r4 = less(40182006, r5, t);
-    let r3 = less(65363502, r4, t);
-    let r2 = less(119196954, r3, t);
-    let r1 = less(357908974, r2, t);
-    1073741945 + part(r1, t)
+    let coefficients = [
+        1610546, 8597100, 22181123, 40182006, 65363502, 119196954, 357908974,
+    ];
+    1073741945 + alternating(&coefficients, t)
 }
 
 // About 2^30 × the cube root of n / d, where n / d is from 2^-8 to 2.
 pub fn cube_root(n: u64, d: u64) -> u32 {
     let x = ratio(n, d);
-    let z = u64::leading_zeros(x) % 64;
+    let z = x.leading_zeros() % 64;
     let y = cube_part(fraction(x, z));
     (y as u64 * cube_scale(z) as u64 / ONE % HALF) as u32
 }
 
 // About 2^30 × the square root of 1 + t / 2^32.
 fn square_part(t: u32) -> u32 {
-    let r3 = less(47824288, 10943635, t);
-    let r2 = less(128329164, r3, t);
-    let r1 = less(536185356, r2, t);
-    1073755346 + part(r1, t)
+    1073755346 + alternating(&[10943635, 47824288, 128329164, 536185356], t)
 }
 
 // 2^31 × the square root of 1 or 2.
@@ -110,7 +107,7 @@ fn square_scale(z: u32) -> u32 {
 
 // About the square root of n: a polynomial, and a step of Newton's from there.
 pub fn square_root(n: u64) -> u32 {
-    let z = u64::leading_zeros(n);
+    let z = n.leading_zeros();
     if z == 64 {
         return 0;
     }
@@ -134,13 +131,10 @@ fn surplus(a: u64, b: u64) -> u32
     ensures { result < 92 }
 {
     if a == 0 {
-        let z = u64::leading_zeros(b);
-        if z < 27 {
-            return 27 - z;
-        }
-        return 0;
+        27u32.saturating_sub(b.leading_zeros())
+    } else {
+        91 - a.leading_zeros()
     }
-    91 - u64::leading_zeros(a)
 }
 
 // About n / d, each of two words, the upper first, where that is below 2^26.

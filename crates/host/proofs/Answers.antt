@@ -11,7 +11,7 @@ use lib.ListN.{length, drop}
 use lib.Seq.{sets}
 use Rattle.causes.specs.declared.Cause.{Cause}
 use Rattle.causes.specs.declared.Cause.TheVariants.{ShortBuffer}
-use Rattle.causes.specs.declared.Checked.TheVariants.{Clear, Because}
+use Rattle.std.specs.Prelude.{Ok, Err}
 use Rattle.causes.specs.Causes.{cause_number, accepted, refused}
 use Rattle.causes.specs.Checks.{check, first_of}
 use Rattle.causes.proofs.Checks.{fires, passes, ends, refuses, clear_at, first_because, first_clear, numbered_refused, numbered_accepted}
@@ -55,11 +55,11 @@ module _ (light : ℕ) (bytes : List ℕ) where
   found = coordinates_in (host_colour light bytes)
 
   found_because : (n : ℕ) → refused n ≡ coloured_of light bytes →
-      (c : Cause) × (first_of (colour_checks light bytes) ≡ Because c) × (cause_number c ≡ n)
+      (c : Cause) × (first_of (colour_checks light bytes) ≡ Err c) × (cause_number c ≡ n)
   unfolding coloured_of
   found_because n e = numbered_refused (first_of (colour_checks light bytes)) found n (sym e)
 
-  found_colour : (c : Coordinates) → accepted c ≡ coloured_of light bytes → (first_of (colour_checks light bytes) ≡ Clear) × (c ≡ found)
+  found_colour : (c : Coordinates) → accepted c ≡ coloured_of light bytes → (first_of (colour_checks light bytes) ≡ Ok tt) × (c ≡ found)
   unfolding coloured_of
   found_colour c e = numbered_accepted (first_of (colour_checks light bytes)) found c (sym e)
 

@@ -1,7 +1,7 @@
 -- Document 01, "Listing and host": what the C call answers and leaves in its buffer, refusals included. Assumes nothing.
 use Rattle.std.specs.Prelude.{ℕ, not, List, [], ◌∷◌, ◌++◌, length, drop, pos, ltb, eqb}
 use Rattle.causes.specs.declared.Cause.TheVariants.{ShortTable, OverBright, ShortBuffer, NoSuchLight}
-use Rattle.causes.specs.Causes.{cause_number, Numbered, accepted, refusal}
+use Rattle.causes.specs.Causes.{cause_number, Numbered}
 use Rattle.causes.specs.Checks.{Check, check, first_of, unless, numbered}
 use Rattle.cie.specs.declared.Colour.{Colour}
 use Rattle.cie.specs.Spacing.{rows_at, spectrum_bytes, spacing_told}
@@ -11,8 +11,6 @@ use Rattle.cie.specs.Colour.{colour_at}
 use Rattle.colour.specs.declared.Coordinates.{Coordinates}
 use Rattle.colour.specs.Coordinates.{coordinates_in}
 use Rattle.endian.specs.Bytes.{le32, words, twos}
-use Rattle.host.specs.declared.Coloured.{Coloured}
-use Rattle.host.specs.declared.Coloured.TheVariants.{Whole, Refused}
 
 -- "a spectrum as 162 bytes (81 readings of 2 bytes, little-endian)"; document 02: "the host call takes 162 or 82 bytes, the length telling the
 -- spacing"
@@ -50,12 +48,8 @@ host_checks light bytes room = colour_checks light bytes ++ (check (ltb room ans
 unfoldable pub host_colour : ℕ → List ℕ → Colour
 host_colour light bytes = colour_at (light_tables light (host_spacing bytes)) (host_readings bytes)
 
--- what is found before the buffer is looked at, in the paper's numbers: the coordinates, or the number of the cause
-abbrev pub coloured_answer : Coloured → Numbered Coordinates
-coloured_answer (Whole coordinates) = accepted coordinates
-coloured_answer (Refused cause) = refusal cause
-
--- of readings under a light at a spacing
+-- what is found before the buffer is looked at, in the paper's numbers: the coordinates, or the number of the cause, of readings under a light
+-- at a spacing
 unfoldable pub coloured_by : ℕ → ℕ → List ℕ → Numbered Coordinates
 coloured_by light spacing readings =
     numbered (first_of (check (any_above reader_limit readings) OverBright ∷ [])) (coordinates_in (colour_at (light_tables light spacing) readings))

@@ -4,8 +4,9 @@
 ghost use Rattle.std.specs.Prelude.{◌≡◌, false, ◌++◌, ◌+◌, ◌^◌, ◌≤◌, ◌<◌, length};
 ghost use Rattle.std.proofs.lemmas.List.Edits.{sets};
 ghost use Rattle.cie.specs.Spacing.{unknown_spacing, rows_at, spectrum_bytes};
+ghost use Rattle.causes.specs.Causes.{answer_of};
 ghost use Rattle.endian.specs.Bytes.{le32, words, twos};
-ghost use Rattle.host.specs.Host.{answer_length, coordinate_bytes, coloured_answer, coloured_by, coloured_of, answered, buffer_after};
+ghost use Rattle.host.specs.Host.{answer_length, coordinate_bytes, coloured_by, coloured_of, answered, buffer_after};
 
 use causes::Cause;
 use cie::spacing;
@@ -15,36 +16,34 @@ use colour::Coordinates;
 // The bytes of an answer.
 const ANSWER: usize = 20;
 
-// The coordinates of a spectrum, or the cause against it or its light.
-#[derive(Clone, Copy)]
-enum Coloured {
-    Whole(Coordinates),
-    Refused(Cause),
-}
-
 // The coordinates under a light of a spectrum held in bytes, with as many places lent for its readings as it has rows.
-fn colour_through(light: u32, spacing: u32, spectrum: &[u8], places: &mut [u16]) -> Coloured
+fn colour_through(
+    light: u32,
+    spacing: u32,
+    spectrum: &[u8],
+    places: &mut [u16],
+) -> Result<Coordinates, Cause>
     requires { (unknown_spacing spacing ≡ false) × (length places.old ≡ rows_at spacing) × (length spectrum.now ≡ spectrum_bytes (rows_at spacing)) }
-    ensures { coloured_answer result ≡ coloured_by light spacing (words spectrum.now 0 2 (rows_at spacing)) }
+    ensures { answer_of result ≡ coloured_by light spacing (words spectrum.now 0 2 (rows_at spacing)) }
 {
     endian::read_words(spectrum, 0, places);
     if cie::spectrum::over_bright(places, READER_LIMIT) {
-        return Coloured::Refused(Cause::OverBright);
+        return Err(Cause::OverBright);
     }
-    Coloured::Whole(lights::coordinates_in(light, spacing, places))
+    Ok(lights::coordinates_in(light, spacing, places))
 }
 
 // The coordinates under a light of a spectrum held in bytes, whose length tells the spacing.
-fn colour_in_light(light: u32, spectrum: &[u8]) -> Coloured
-    ensures { coloured_answer result ≡ coloured_of light spectrum.now }
+fn colour_in_light(light: u32, spectrum: &[u8]) -> Result<Coordinates, Cause>
+    ensures { answer_of result ≡ coloured_of light spectrum.now }
 {
     if lights::is_unknown(light) {
-        return Coloured::Refused(Cause::NoSuchLight);
+        return Err(Cause::NoSuchLight);
     }
     let spacing = spacing::told_by(spectrum.len());
     let rows = spacing::rows_at(spacing);
     if spectrum.len() != spacing::READING_BYTES * rows {
-        return Coloured::Refused(Cause::ShortTable);
+        return Err(Cause::ShortTable);
     }
     let mut readings = [0u16; spacing::MOST_ROWS];
     colour_through(light, spacing, spectrum, &mut readings[..rows])
@@ -74,13 +73,10 @@ pub fn shade_colour(light: u32, spectrum: &[u8], out: &mut [u8]) -> u32
     ensures value { result ≡ answered light spectrum.now (length out.old) }
     ensures out_after { out.new ≡ buffer_after light spectrum.now out.old }
 {
-    let found = colour_in_light(light, spectrum);
-    match found {
-        Coloured::Refused(cause) => causes::number(cause),
-        Coloured::Whole(colour) => {
-            if out.len() < ANSWER {
-                return causes::number(Cause::ShortBuffer);
-            }
+    match colour_in_light(light, spectrum) {
+        Err(cause) => u32::from(cause),
+        Ok(_) if out.len() < ANSWER => u32::from(Cause::ShortBuffer),
+        Ok(colour) => {
             put_answer(out, colour);
             0
         }

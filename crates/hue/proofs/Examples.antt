@@ -4,7 +4,7 @@ use mathlib.Core.List.{List, [], ◌∷◌}
 use Prim.Native.Nat.{ℕ}
 use lib.IntN.{ℤ, pos, neg_ℤ}
 use Rattle.wide.specs.Roots.{square_root, greatest, climb, next_bit}
-use Rattle.cie.specs.declared.Chromaticity.TheVariants.{None}
+use Rattle.std.specs.Prelude.{None}
 use Rattle.cie.specs.declared.Colour.{Colour}
 use Rattle.cie.specs.Colour.{chroma}
 use Rattle.hue.specs.declared.plane.PlaneColour.{PlaneColour}

@@ -111,9 +111,6 @@ module _ {s t : PlaneColour} (S : InPlane s) (T : InPlane t) where
     unfolding hue_square chroma_difference
     left_is = rw (across_is, difference_abs t.chroma s.chroma, ez, distance_same t.chroma s.chroma)
 
-    pub none_left : x * x + y * y < z * z → 0 ≡ hue_square s t
-    none_left h = let e : 0 ≡ x * x + y * y - z * z = omega arith in e ∙ left_is
-
   -- ── the two differences ──
 
   -- a root with its sign, as a program sets it

@@ -11,15 +11,15 @@ use plane::PlaneColour;
 mod plane;
 
 // A difference with its sign in CIELAB, in 1/10,000.
-#[derive(Clone, Copy)]
+#[derive(Clone, Copy, Debug, PartialEq, Eq)]
 pub struct SignedLabUnits(pub i32);
 
 // A difference with its sign in CIELUV, in 1/10,000.
-#[derive(Clone, Copy)]
+#[derive(Clone, Copy, Debug, PartialEq, Eq)]
 pub struct SignedLuvUnits(pub i32);
 
 // Chroma difference and hue difference, trial minus standard, in CIELAB and in CIELUV.
-#[derive(Clone, Copy)]
+#[derive(Clone, Copy, Debug, PartialEq, Eq)]
 pub struct Shift {
     pub dcab: SignedLabUnits,
     pub dhab: SignedLabUnits,

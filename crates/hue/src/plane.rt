@@ -5,7 +5,7 @@ ghost use Rattle.hue.specs.Hue.{chroma_difference, hue_square, turn, hue_differe
 ghost use Rattle.hue.specs.InPlane.{InPlane};
 
 // What a colour has in a plane: a and b, or u and v, and the chroma of that pair.
-#[derive(Clone, Copy)]
+#[derive(Clone, Copy, Debug, PartialEq, Eq)]
 pub struct PlaneColour {
     pub p: i32,
     pub q: i32,
@@ -13,7 +13,7 @@ pub struct PlaneColour {
 }
 
 // Chroma difference and hue difference, trial minus standard.
-#[derive(Clone, Copy)]
+#[derive(Clone, Copy, Debug, PartialEq, Eq)]
 pub struct PlaneShift {
     pub chroma: i32,
     pub hue: i32,
@@ -24,14 +24,10 @@ fn hue_square(standard: PlaneColour, trial: PlaneColour) -> u64
     requires { InPlane standard × InPlane trial }
     ensures { result ≡ hue_square standard trial }
 {
-    let p = signed::apart_of(standard.p, trial.p) as u64;
-    let q = signed::apart_of(standard.q, trial.q) as u64;
-    let c = signed::distance_of(standard.chroma, trial.chroma) as u64;
-    let across = p * p + q * q;
-    if across < c * c {
-        return 0;
-    }
-    across - c * c
+    let p = standard.p.abs_diff(trial.p) as u64;
+    let q = standard.q.abs_diff(trial.q) as u64;
+    let c = standard.chroma.abs_diff(trial.chroma) as u64;
+    (p * p + q * q).saturating_sub(c * c)
 }
 
 // x × y, which 64 bits hold and 32 do not.
@@ -54,11 +50,12 @@ fn hue_difference(standard: PlaneColour, trial: PlaneColour) -> i32
     requires { InPlane standard × InPlane trial }
     ensures { result ≡ hue_difference standard trial }
 {
-    let size = wide::roots::square_root(hue_square(standard, trial));
+    let size = wide::roots::square_root(hue_square(standard, trial)) as i32;
     if is_negative(standard, trial) {
-        return -(size as i32);
+        -size
+    } else {
+        size
     }
-    size as i32
 }
 
 // The chroma and hue differences of a trial and its standard in one plane.

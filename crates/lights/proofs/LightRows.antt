@@ -40,6 +40,10 @@ stride_row spacing i h = go (eqb spacing coarse_spacing) h
     go true k = omega arith
     go false k = omega arith
 
+-- the row that a program reads
+pub row_within : (spacing stride i : ℕ) → stride ≡ stride_at spacing → i < rows_at spacing → stride * i < most_rows
+row_within spacing stride i e h = rw e (stride_row spacing i h)
+
 table_row : (spacing : ℕ) (table : List ℕ) (i : ℕ) → get_or (table_at spacing table) i 0 ≡ get_or table (stride_at spacing * i) 0
 unfolding table_at stride_at
 table_row spacing table i = go (eqb spacing coarse_spacing)

@@ -62,54 +62,58 @@ const WHITE_D65_10: WhitePoint = WhitePoint {
 pub fn is_unknown(light: u32) -> bool
     ensures { result ≡ unknown_light light }
 {
-    if light == LIGHT_A {
-        return false;
-    }
-    light != LIGHT_D65
+    !matches!(light, LIGHT_A | LIGHT_D65)
 }
 
 // How many rows of a table lie between two of a spacing's.
+#[tactic(auto, unfolding(crate::specs::Lights::stride_at))]
 fn stride_at(spacing: u32) -> usize
     ensures { result ≡ stride_at spacing }
 {
-    if spacing == COARSE_SPACING {
-        return 2;
-    }
-    1
+    if spacing == COARSE_SPACING { 2 } else { 1 }
 }
 
-// The sums of a spectrum by an illuminant and the columns of an observer, at the rows of a spacing.
-fn sums_by<'a>(
-    spacing: u32,
-    readings: &[u16],
+// An illuminant and the columns of an observer, as they are printed.
+#[derive(Clone, Copy)]
+struct Tables<'a> {
     illuminant: &'a [u32],
     x: &'a [u32],
     y: &'a [u32],
     z: &'a [u32],
-) -> Sums
-    requires { Spectrum readings.now × (length readings.now ≤ rows_at spacing) × Whole illuminant.now x.now y.now z.now }
-    ensures { result ≡ sums_of (tables_at spacing illuminant.now x.now y.now z.now) readings.now }
+    ghost whole: { Whole illuminant.now x.now y.now z.now },
+}
+
+// The sums of a spectrum by tables, at the rows of a spacing.
+#[tactic(auto, using(crate::proofs::LightRows::row_within))]
+fn sums_by(spacing: u32, readings: &[u16], tables: Tables<'_>) -> Sums
+    requires { Spectrum readings.now × (length readings.now ≤ rows_at spacing) }
+    ensures { result ≡ sums_of (tables_at spacing tables.entry.illuminant.now tables.entry.x.now tables.entry.y.now tables.entry.z.now) readings.now }
 {
+    let Tables {
+        illuminant,
+        x,
+        y,
+        z,
+    } = tables;
     let stride = stride_at(spacing);
     let mut sums = Sums { x: 0, y: 0, z: 0 };
-    let mut i = 0;
-    while i < readings.len() {
+    for (i, &reading) in readings.iter().enumerate() {
         let row = stride * i;
-        let r = readings[i] as u64 * illuminant[row] as u64;
+        let r = reading as u64 * illuminant[row] as u64;
         sums = sums.with_row(r, x[row] as u64, y[row] as u64, z[row] as u64);
-        i = i + 1;
     }
     sums
 }
 
 // The illuminant of a light that is 1 or 2.
-fn illuminant_of(light: u32) -> [u32; 81]
-    ensures { result ≡ illuminant_of light }
+fn illuminant_of(light: u32) -> &'static [u32]
+    ensures { result.now ≡ illuminant_of light }
 {
     if light == LIGHT_A {
-        return tables::ILLUMINANT_A;
+        &tables::ILLUMINANT_A
+    } else {
+        &tables::ILLUMINANT_D65
     }
-    tables::ILLUMINANT_D65
 }
 
 // The sums of a spectrum under a light that is 1 or 2.
@@ -117,31 +121,25 @@ fn sums_in(light: u32, spacing: u32, readings: &[u16]) -> Sums
     requires { Spectrum readings.now × (length readings.now ≤ rows_at spacing) }
     ensures { result ≡ sums_of (light_tables light spacing) readings.now }
 {
-    let illuminant = illuminant_of(light);
-    sums_by(
-        spacing,
-        readings,
-        &illuminant,
-        &tables::OBSERVER_X,
-        &tables::OBSERVER_Y,
-        &tables::OBSERVER_Z,
-    )
+    let tables = Tables {
+        illuminant: illuminant_of(light),
+        x: &tables::OBSERVER_X,
+        y: &tables::OBSERVER_Y,
+        z: &tables::OBSERVER_Z,
+    };
+    sums_by(spacing, readings, tables)
 }
 
 // The white of a light that is 1 or 2.
 fn white_in(light: u32, spacing: u32) -> WhitePoint
     ensures { result ≡ white_point_of (white_of (light_tables light spacing)) }
 {
-    if spacing == COARSE_SPACING {
-        if light == LIGHT_A {
-            return WHITE_A_10;
-        }
-        return WHITE_D65_10;
+    match (light, spacing) {
+        (LIGHT_A, COARSE_SPACING) => WHITE_A_10,
+        (LIGHT_A, _) => WHITE_A_5,
+        (_, COARSE_SPACING) => WHITE_D65_10,
+        _ => WHITE_D65_5,
     }
-    if light == LIGHT_A {
-        return WHITE_A_5;
-    }
-    WHITE_D65_5
 }
 
 // The coordinates of a spectrum under a light that is 1 or 2.

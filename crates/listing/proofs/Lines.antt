@@ -9,15 +9,21 @@ use native.Mathlib.Omega.{arith}
 use lib.IntN.{ℤ}
 use lib.ListN.{length, get_or, drop, drop_of_length-le}
 use lib.Seq.{drop-cons, drop-drop}
-use Rattle.causes.proofs.Checks.{passes, ends}
+use Rattle.std.specs.Prelude.{Result, Ok}
+use Rattle.causes.specs.declared.Cause.{Cause}
+use Rattle.causes.specs.Checks.{first_of}
+use Rattle.causes.proofs.Checks.{first_passes, first_ends}
 use Rattle.cie.specs.declared.Colour.{Colour}
 use Rattle.cie.specs.Spacing.{unknown_spacing, rows_at}
 use Rattle.cie.specs.Sums.{white_of}
 use Rattle.cie.specs.Lights.{light_d65, light_tables}
 use Rattle.cie.specs.Colour.{colour_of}
 use Rattle.conditions.specs.declared.Conditions.{Conditions}
-use Rattle.conditions.specs.declared.Prepared.{Prepared}
-use Rattle.conditions.specs.Conditions.{conditions_of, conditions_in, prepared_light, Prepares}
+use Rattle.conditions.specs.declared.lent.Lent.{Lent}
+use Rattle.conditions.specs.Lent.{conditions_lent}
+use Rattle.conditions.specs.Checks.{light_checks}
+use Rattle.conditions.specs.Conditions.{conditions_of, prepared_light, Prepares}
+use Rattle.conditions.proofs.Answers.{prepared_ok}
 use Rattle.conditions.proofs.Dots.{sums_same}
 use Rattle.book.specs.Book.{readings_of, is_book, spectrum_of}
 use Rattle.shades.specs.Shades.{shade_under}
@@ -59,9 +65,13 @@ module _ (spacing : ℕ) (ns rs : List ℕ) (i : ℕ) where
 
 -- the opened light, and a shade under it
 module _ (spacing : ℕ) where
-  pub opened_d65 : {p : Prepared} → unknown_spacing spacing ≡ false → Prepares (prepared_light light_d65 spacing) p →
-      p.conditions ≡ conditions_of (light_tables light_d65 spacing)
-  opened_d65 h e = e.beside ∙ ap conditions_in (passes _ _ _ _ _ h ∙ passes _ _ _ _ _ refl ∙ ends _ _)
+  pub opened_d65 : {r : Result Conditions Cause} → unknown_spacing spacing ≡ false → Prepares (prepared_light light_d65 spacing) r →
+      r ≡ Ok (conditions_of (light_tables light_d65 spacing))
+  opened_d65 h e = prepared_ok (first_of (light_checks light_d65 spacing)) _ e (first_passes _ _ _ h ∙ first_passes _ _ _ refl ∙ first_ends)
+
+  pub lent_d65 : (l : Lent) {r : Result Conditions Cause} {k : Conditions} → unknown_spacing spacing ≡ false →
+      Prepares (prepared_light light_d65 spacing) r → r ≡ Ok k → conditions_lent l ≡ k → conditions_lent l ≡ conditions_of (light_tables light_d65 spacing)
+  lent_d65 l h e was lent = let opened = opened_d65 h e in cc
 
   pub shade_d65 : {k : Conditions} (s : List ℕ) (i : ℕ) → k ≡ conditions_of (light_tables light_d65 spacing) →
       shade_under k s i ≡ shade_colour spacing (spectrum_of (rows_at spacing) (readings_of (rows_at spacing) s) i)

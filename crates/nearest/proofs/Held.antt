@@ -1,58 +1,47 @@
 -- What a search holds, by the code's tests: each way through the code gives the definition's value. Assumes nothing.
-use mathlib.Core.Path.{◌≡◌, refl, ap, ◌∙◌}
-use mathlib.Core.Bool.{Bool, true, false, cond}
+use mathlib.Core.Path.{◌≡◌, ap, ◌∙◌}
+use mathlib.Core.Bool.{true, false}
 use mathlib.Core.List.{List}
 use Prim.Native.Nat.{ℕ, ◌+◌, ◌-◌, ◌≤◌, ◌<◌}
 use lib.Dec.{ltb}
 use lib.ListN.{length, get_or}
 use borrow.Author.Tests.{lt-ltb, le-ltb, eq-eqb, ne_eqb}
+use Rattle.std.specs.Prelude.{Option, Some, None}
+use Rattle.std.proofs.lemmas.Option.{slice_get-get_or}
 use Rattle.nearest.specs.declared.Search.{Search}
-use Rattle.nearest.specs.Order.{difference_in, number_in, goes_on, is_closer, compared, gap_of}
+use Rattle.nearest.specs.Order.{difference_in, number_in, next_difference, goes_on, is_closer, compared, gap_of}
 
 module _ (s : Search) (keys : List ℕ) where
-  pub gap_none : length keys ≤ s.next → 0 ≡ gap_of s keys
-  unfolding gap_of
-  gap_none h = rw (le-ltb s.next (length keys) h)
+  pub gap_none : s.next ≡ None → 0 ≡ gap_of s keys
+  unfolding gap_of next_difference
+  gap_none n = rw n
 
-  pub gap_left : s.next < length keys → {d g : ℕ} → d ≡ difference_in (get_or keys s.next 0) → g ≡ s.e - d → g ≡ gap_of s keys
-  unfolding gap_of
-  gap_left h e p = rw (lt-ltb s.next (length keys) h) (p ∙ ap (λ (x : ℕ). s.e - x) e)
+  pub gap_left : {i : ℕ} → s.next ≡ Some i → i < length keys → {d g : ℕ} → d ≡ difference_in (get_or keys i 0) → g ≡ s.e - d → g ≡ gap_of s keys
+  unfolding gap_of next_difference
+  gap_left {i} n h e p = rw (n, slice_get-get_or keys i 0 h) (p ∙ ap (λ (x : ℕ). s.e - x) e)
 
   module _ (budget : ℕ) where
-    pub none_remains : length keys ≤ s.next → false ≡ goes_on s budget keys
-    unfolding goes_on
-    none_remains h = rw (le-ltb s.next (length keys) h)
+    pub none_remains : s.next ≡ None → false ≡ goes_on s budget keys
+    unfolding goes_on next_difference
+    none_remains n = rw n
 
-    pub budget_used : s.next < length keys → budget ≤ s.count → false ≡ goes_on s budget keys
-    unfolding goes_on
-    budget_used h k = rw (lt-ltb s.next (length keys) h, le-ltb s.count budget k)
+    pub budget_used : {i : ℕ} → s.next ≡ Some i → i < length keys → budget ≤ s.count → false ≡ goes_on s budget keys
+    unfolding goes_on next_difference
+    budget_used {i} n h k = rw (n, slice_get-get_or keys i 0 h, le-ltb s.count budget k)
 
-    pub by_difference : s.next < length keys → s.count < budget → {d : ℕ} → d ≡ difference_in (get_or keys s.next 0) →
+    pub by_difference : {i : ℕ} → s.next ≡ Some i → i < length keys → s.count < budget → {d : ℕ} → d ≡ difference_in (get_or keys i 0) →
         ltb d s.e ≡ goes_on s budget keys
-    unfolding goes_on
-    by_difference h k e = rw (lt-ltb s.next (length keys) h, lt-ltb s.count budget k, e)
+    unfolding goes_on next_difference
+    by_difference {i} n h k e = rw (n, slice_get-get_or keys i 0 h, lt-ltb s.count budget k, e)
 
 module _ (s : Search) (key e : ℕ) where
-  pub closer_new : (next : ℕ) → is_closer s key e ≡ true → record { count = s.count + 1; best = key; e = e; next = next } ≡ compared s key e next
+  pub closer_new : (next : Option ℕ) → is_closer s key e ≡ true → record { count = s.count + 1; best = key; e = e; next = next } ≡ compared s key e next
   unfolding compared
   closer_new next h = rw h
 
-  pub closer_old : (next : ℕ) → is_closer s key e ≡ false → record { count = s.count + 1; best = s.best; e = s.e; next = next } ≡ compared s key e next
+  pub closer_old : (next : Option ℕ) → is_closer s key e ≡ false → record { count = s.count + 1; best = s.best; e = s.e; next = next } ≡ compared s key e next
   unfolding compared
   closer_old next h = rw h
-
-  pub compared_count : (next : ℕ) → (compared s key e next).count ≡ s.count + 1
-  unfolding compared
-  compared_count next = go (is_closer s key e)
-    where
-      go : (b : Bool) →
-          (cond {A = Search} b
-          (record { count = s.count + 1; best = key; e = e; next = next })
-          (record { count = s.count + 1; best = s.best; e = s.e; next = next })
-          ).count
-          ≡ s.count + 1
-      go true = refl
-      go false = refl
 
   pub e_below : e < s.e → true ≡ is_closer s key e
   e_below h = rw (lt-ltb e s.e h)

@@ -5,6 +5,7 @@ use mathlib.Core.Bool.{Bool, true, false, cond}
 use mathlib.Core.Logic.{◌⊎◌, inl, inr, ⊎_elim}
 use mathlib.Core.List.Memᴰ
 use mathlib.Core.List.{List, [], ◌∷◌}
+use Rattle.std.specs.Prelude.{None}
 use Prim.Native.Nat.{ℕ, zero, suc, ◌+◌, ◌≤◌, ◌<◌}
 use native.Mathlib.Omega.{arith}
 use lib.Dec.{leb, ltb}
@@ -12,7 +13,7 @@ use lib.ListN.{length, get_or, length-map, get_or-map}
 use borrow.Author.Tests.{ltb-true, ltb-false, leb-true, leb-false, le-leb, lt-leb}
 use Rattle.nearest.specs.Rule.{Shade, sooner, insert, in_order}
 use Rattle.nearest.specs.Claims.{In}
-use Rattle.nearest.specs.Order.{number_range, shade_key, keys_of, NextIs}
+use Rattle.nearest.specs.Order.{number_range, shade_key, keys_of, IsNext, NextIs}
 use Rattle.nearest.proofs.Sorted.{in_insert, in_order_lem, order_in, sooner_true, NotSooner, sooner_false}
 
 -- ── shades by their places ──
@@ -145,30 +146,26 @@ remaining_least from x (s ∷ ss) (more k r) m f h =
 
 -- ── by the place of the next key ──
 
-module _ (ss : List Shade) (from i : ℕ) (n : NextIs (keys_of ss) from i) where
-  -- no shade remains
-  pub left_none : length ss ≤ i → remaining from (in_order ss) ≡ []
-  left_none h = remaining_none from (in_order ss) (λ s m. below s (placed ss s (in_order_lem s ss m)))
-    where
-      below : (s : Shade) → Placed ss s → shade_key s < from
-      below s p = go (leb from (shade_key s)) refl
-        where
-          e : get_or (keys_of ss) p.i 0 ≡ shade_key s
-          e = key_at ss p.i ∙ ap shade_key (sym p.at)
+module _ (ss : List Shade) (from : ℕ) where
+  same_key : (s : Shade) (p : Placed ss s) → get_or (keys_of ss) p.i 0 ≡ shade_key s
+  same_key s p = key_at ss p.i ∙ ap shade_key (sym p.at)
 
-          go : (b : Bool) → leb from (shade_key s) ≡ b → shade_key s < from
-          go true t =
-              absurd (omega (arith, keys_length ss, (n.least p.i (omega (arith, keys_length ss, p.below)) (omega (arith, e, leb-true from (shade_key s) t))).0))
-          go false t = leb-false from (shade_key s) t
+  -- no shade remains
+  pub left_none : NextIs (keys_of ss) from None → remaining from (in_order ss) ≡ []
+  left_none below =
+      remaining_none from (in_order ss)
+      (λ s m.
+      let p = placed ss s (in_order_lem s ss m) in
+      omega (arith, same_key s p, below p.i (omega (arith, keys_length ss, p.below))))
 
   -- the next is the first that remains
-  pub left_first : {before : ℕ} → Rising before ss → i < length ss →
+  pub left_first : {before i : ℕ} → Rising before ss → IsNext (keys_of ss) from i →
       remaining from (in_order ss) ≡ shade_at ss i ∷ remaining (shade_key (shade_at ss i) + 1) (in_order ss)
-  left_first r h =
+  left_first {i = i} r n =
       let k = keys_length ss in
-      remaining_least from (shade_at ss i) (in_order ss) (strict_order ss r) (order_in (shade_at ss i) ss (shade_in ss i h))
-      (omega (arith, key_at ss i, n.high (omega (arith, k))))
+      remaining_least from (shade_at ss i) (in_order ss) (strict_order ss r) (order_in (shade_at ss i) ss (shade_in ss i (omega (arith, k, n.inside))))
+      (omega (arith, key_at ss i, n.high))
       (λ s m f.
       let p = placed ss s (in_order_lem s ss m) in
-      let e : get_or (keys_of ss) p.i 0 ≡ shade_key s = key_at ss p.i ∙ ap shade_key (sym p.at) in
-      omega (arith, e, key_at ss i, (n.least p.i (omega (arith, k, p.below)) (omega (arith, e, f))).1))
+      let e = same_key s p in
+      omega (arith, e, key_at ss i, n.least p.i (omega (arith, k, p.below)) (omega (arith, e, f))))

@@ -1,15 +1,17 @@
 -- The turns of a search: what is tried from each on gives the rule's answer. Assumes nothing.
-use mathlib.Core.Path.{◌≡◌, refl, sym, ap, ◌∙◌}
+use mathlib.Core.Path.{◌≡◌, refl, sym, ap, subst, ◌∙◌}
 use mathlib.Core.Bool.{Bool, true, false, ◌&&◌, ◌||◌, cond, or-true}
 use mathlib.Core.List.{List, [], ◌∷◌}
 use Prim.Native.Nat.{ℕ, ◌+◌, ◌-◌, ◌≤◌, ◌<◌}
 use native.Mathlib.Omega.{arith}
 use lib.Dec.{leb, ltb, eqb}
 use lib.ListN.{length, get_or}
+use Rattle.std.specs.Prelude.{is_some, Option, Some, None}
+use Rattle.std.proofs.lemmas.Option.{slice_get-get_or}
 use borrow.Author.Tests.{ltb-true, ltb-false, le-leb, lt-leb}
 use Rattle.nearest.specs.declared.Search.{Search}
 use Rattle.nearest.specs.Rule.{Shade, searched, closer, better, in_order, tries, tries_all, nearest, answered}
-use Rattle.nearest.specs.Order.{number_range, difference_in, number_in, shade_key, keys_of, NextIs, begun, goes_on, is_closer, compared, gap_of}
+use Rattle.nearest.specs.Order.{number_range, difference_in, number_in, shade_key, keys_of, IsNext, NextIs, begun, next_difference, goes_on, turn, is_closer, compared, gap_of}
 use Rattle.nearest.proofs.Remaining.{shade_at, key_at, keys_length, Rising, small_number, shade_in, remaining, remaining_all, left_none, left_first}
 
 -- what a key holds
@@ -37,6 +39,47 @@ tries_end : (budget count : ℕ) (best : Shade) → tries budget count best [] �
 unfolding tries
 tries_end budget count best = refl
 
+-- the next shade of a search, and what its turn tells
+module _ (s : Search) (keys : List ℕ) where
+  difference_next : {i : ℕ} → s.next ≡ Some i → i < length keys → next_difference s keys ≡ Some (difference_in (get_or keys i 0))
+  unfolding next_difference
+  difference_next {i} is h = rw (is, slice_get-get_or keys i 0 h)
+
+  no_difference : s.next ≡ None → next_difference s keys ≡ None
+  unfolding next_difference
+  no_difference is = rw is
+
+module _ (s : Search) (budget : ℕ) (keys : List ℕ) where
+  turn_taken : {i : ℕ} → turn s budget keys ≡ Some i → (goes_on s budget keys ≡ true) × (s.next ≡ Some i)
+  unfolding turn
+  turn_taken {i} t = go (goes_on s budget keys) refl t
+    where
+      go : (b : Bool) → goes_on s budget keys ≡ b → cond b s.next None ≡ Some i → (goes_on s budget keys ≡ true) × (s.next ≡ Some i)
+      go true p t = (p, t)
+      go false p t = absurd cc
+
+  turn_left : {i : ℕ} → s.next ≡ Some i → turn s budget keys ≡ None → goes_on s budget keys ≡ false
+  unfolding turn
+  turn_left {i} is t = go (goes_on s budget keys) refl t
+    where
+      go : (b : Bool) → goes_on s budget keys ≡ b → cond b s.next None ≡ None → goes_on s budget keys ≡ false
+      go true p t = absurd cc
+      go false p t = p
+
+-- the count of a search after one full comparison more
+pub compared_count : (s : Search) (key e : ℕ) (next : Option ℕ) → (compared s key e next).count ≡ s.count + 1
+unfolding compared
+compared_count s key e next = go (is_closer s key e)
+  where
+    go : (b : Bool) →
+        (cond {A = Search} b
+        (record { count = s.count + 1; best = key; e = e; next = next })
+        (record { count = s.count + 1; best = s.best; e = s.e; next = next })
+        ).count
+        ≡ s.count + 1
+    go true = refl
+    go false = refl
+
 -- a search: its best shade, the key from which on none is tried, and that what is tried from there on gives the rule's answer
 pub record Looking (budget : ℕ) (ss : List Shade) (s : Search) : Type 0 where
   pub best : Shade
@@ -54,15 +97,16 @@ module _ (budget : ℕ) (ss : List Shade) (rises : Rising 0 ss) where
     small_at : (shade_at ss i).number < number_range
     small_at = small_number ss rises (shade_at ss i) (shade_in ss i h)
 
-  pub first_inside : {i : ℕ} → 1 ≤ length ss → NextIs (keys_of ss) 0 i → i < length (keys_of ss)
-  first_inside l n = (n.least 0 (omega (arith, keys_length ss)) (omega arith)).0
+  pub first_some : 1 ≤ length ss → (r : Option ℕ) → NextIs (keys_of ss) 0 r → is_some r ≡ true
+  first_some l (Some i) n = refl
+  first_some l None n = absurd (omega (arith, n 0 (omega (arith, keys_length ss))))
 
   -- the first full comparison
-  pub looking_first : {i e next : ℕ} → 1 ≤ budget → 1 ≤ length ss → NextIs (keys_of ss) 0 i → e ≡ (shade_at ss i).e →
+  pub looking_first : {i e : ℕ} (next : Option ℕ) → 1 ≤ budget → IsNext (keys_of ss) 0 i → e ≡ (shade_at ss i).e →
       NextIs (keys_of ss) (get_or (keys_of ss) i 0 + 1) next → Looking budget ss (begun (get_or (keys_of ss) i 0) e next)
   unfolding nearest tries_all
-  looking_first {i} k l n v m =
-      let h : i < length ss = omega (arith, keys_length ss, first_inside l n) in
+  looking_first {i} next k n v m =
+      let h : i < length ss = omega (arith, keys_length ss, n.inside) in
       let o = in_order ss in
       let x = shade_at ss i in
       record {
@@ -75,60 +119,69 @@ module _ (budget : ℕ) (ss : List Shade) (rises : Rising 0 ss) where
         next = m;
         whole =
             ap (λ (key : ℕ). tries budget 1 x (remaining (key + 1) o)) (key_at ss i)
-            ∙ ap (tries_all budget) (sym (left_first ss 0 i n rises h) ∙ remaining_all 0 o (λ s m. omega arith));
+            ∙ ap (tries_all budget) (sym (left_first ss 0 rises n) ∙ remaining_all 0 o (λ s m. omega arith));
       }
 
   module _ {s : Search} (l : Looking budget ss s) where
-    abbrev i : ℕ
-    i = s.next
+    -- the next shade, at a place
+    module _ {i : ℕ} (is : s.next ≡ Some i) where
+      next_is : IsNext (keys_of ss) l.from i
+      next_is = subst (NextIs (keys_of ss) l.from) is l.next
 
-    abbrev here : Shade
-    here = shade_at ss i
+      inside : i < length ss
+      inside = omega (arith, keys_length ss, next_is.inside)
 
-    abbrev key_here : ℕ
-    key_here = get_or (keys_of ss) i 0
+      from_here : tries budget s.count l.best (shade_at ss i ∷ remaining (shade_key (shade_at ss i) + 1) (in_order ss)) ≡ nearest budget ss
+      from_here = ap (tries budget s.count l.best) (sym (left_first ss l.from rises next_is)) ∙ l.whole
 
-    abbrev places : ℕ
-    places = length (keys_of ss)
+      difference_here : next_difference s (keys_of ss) ≡ Some (shade_at ss i).difference
+      difference_here =
+          difference_next s (keys_of ss) is next_is.inside
+          ∙ ap (λ (d : ℕ). Some d) (ap difference_in (key_at ss i) ∙ difference_in_lem (shade_at ss i) (small_at inside))
 
-    -- with the next shade first among those that remain
-    from_here : i < length ss → tries budget s.count l.best (here ∷ remaining (shade_key here + 1) (in_order ss)) ≡ nearest budget ss
-    from_here h = ap (tries budget s.count l.best) (sym (left_first ss l.from i l.next rises h)) ∙ l.whole
-
-    difference_here : i < length ss → difference_in key_here ≡ here.difference
-    difference_here h = ap difference_in (key_at ss i) ∙ difference_in_lem here (small_at h)
+      test_here : goes_on s budget (keys_of ss) ≡ (ltb s.count budget && ltb (shade_at ss i).difference s.e)
+      unfolding goes_on
+      test_here = rw difference_here
 
     -- what the tests of a turn show
-    record Goes : Type 0 where
-      inside : i < length ss
+    record Goes (i : ℕ) : Type 0 where
+      is : s.next ≡ Some i
       used : s.count < budget
-      near : here.difference < l.best.e
+      near : (shade_at ss i).difference < l.best.e
 
-    goes : goes_on s budget (keys_of ss) ≡ true → Goes
-    unfolding goes_on
-    goes t = go (ltb i (places)) refl (ltb s.count budget) refl (ltb (difference_in key_here) s.e) refl t
+    goes : {i : ℕ} → turn s budget (keys_of ss) ≡ Some i → Goes i
+    goes {i} t =
+        let w = turn_taken s budget (keys_of ss) t in
+        go w.1 (ltb s.count budget) refl (ltb (shade_at ss i).difference s.e) refl (sym (test_here w.1) ∙ w.0)
       where
-        go : (a : Bool) → ltb i (places) ≡ a → (b : Bool) → ltb s.count budget ≡ b →
-            (c : Bool) → ltb (difference_in key_here) s.e ≡ c → (a && (b && c)) ≡ true → Goes
-        go true p true q true r t =
-            let h : i < length ss = omega (arith, keys_length ss, ltb-true i places p) in
-            record { inside = h; used = ltb-true s.count budget q; near = omega (arith, difference_here h, l.value, ltb-true (difference_in key_here) s.e r) }
-        go true p true q false r t = let z : ◌≡◌ {A = ℕ} 0 1 = cc in absurd (omega arith)
-        go true p false q c r t = let z : ◌≡◌ {A = ℕ} 0 1 = cc in absurd (omega arith)
-        go false p b q c r t = let z : ◌≡◌ {A = ℕ} 0 1 = cc in absurd (omega arith)
+        go : s.next ≡ Some i → (b : Bool) → ltb s.count budget ≡ b →
+            (c : Bool) → ltb (shade_at ss i).difference s.e ≡ c → (b && c) ≡ true → Goes i
+        go is true q true r t =
+            record { is = is; used = ltb-true s.count budget q; near = omega (arith, l.value, ltb-true (shade_at ss i).difference s.e r) }
+        go is true q false r t = absurd cc
+        go is false q c r t = absurd cc
 
-    module _ (t : goes_on s budget (keys_of ss) ≡ true) where
-      pub next_inside : i < places
-      next_inside = omega (arith, keys_length ss, (goes t).inside)
+    module _ {i : ℕ} (t : turn s budget (keys_of ss) ≡ Some i) where
+      abbrev here : Shade
+      here = shade_at ss i
+
+      abbrev key_here : ℕ
+      key_here = get_or (keys_of ss) i 0
+
+      pub next_inside : i < length (keys_of ss)
+      next_inside = (next_is (goes t).is).inside
 
       pub more_room : s.count + 1 ≤ budget
       more_room = omega (arith, (goes t).used)
 
-      module _ {e next : ℕ} (v : e ≡ here.e) (m : NextIs (keys_of ss) (key_here + 1) next) where
+      small_here : here.number < number_range
+      small_here = small_at (inside (goes t).is)
+
+      module _ {e : ℕ} (v : e ≡ here.e) where
         closer_same : is_closer s key_here e ≡ closer here l.best
         unfolding closer
         closer_same =
-            let p : number_in key_here ≡ here.number = ap number_in (key_at ss i) ∙ number_in_lem here (small_at (goes t).inside) in
+            let p : number_in key_here ≡ here.number = ap number_in (key_at ss i) ∙ number_in_lem here small_here in
             let q : number_in s.best ≡ l.best.number = ap number_in l.key ∙ number_in_lem l.best l.small in
             λ j. ltb (v j) (l.value j) || (eqb (v j) (l.value j) && ltb (p j) (q j))
 
@@ -138,12 +191,12 @@ module _ (budget : ℕ) (ss : List Shade) (rises : Rising 0 ss) where
             ap (λ (x : ℕ). tries budget (s.count + 1) best (remaining (x + 1) (in_order ss))) (key_at ss i)
             ∙ ap (λ (x : Shade). tries budget (s.count + 1) x (remaining (shade_key here + 1) (in_order ss))) (sym p)
             ∙ sym (tries_on budget s.count l.best here (remaining (shade_key here + 1) (in_order ss)) (goes t).used (goes t).near)
-            ∙ from_here (goes t).inside
+            ∙ from_here (goes t).is
 
         -- one full comparison more
-        pub looking_on : Looking budget ss (compared s key_here e next)
+        pub looking_on : (next : Option ℕ) → NextIs (keys_of ss) (key_here + 1) next → Looking budget ss (compared s key_here e next)
         unfolding compared better
-        looking_on = go (is_closer s key_here e) refl
+        looking_on next m = go (is_closer s key_here e) refl
           where
             go : (b : Bool) → is_closer s key_here e ≡ b → Looking budget ss (compared s key_here e next)
             go true c =
@@ -151,7 +204,7 @@ module _ (budget : ℕ) (ss : List Shade) (rises : Rising 0 ss) where
                 rw c
                 (record {
                   best = here;
-                  small = small_at (goes t).inside;
+                  small = small_here;
                   key = key_at ss i;
                   value = v;
                   room = more_room;
@@ -174,41 +227,38 @@ module _ (budget : ℕ) (ss : List Shade) (rises : Rising 0 ss) where
                 })
 
     -- the search ends
-    pub looking_end : goes_on s budget (keys_of ss) ≡ false →
+    pub looking_end : turn s budget (keys_of ss) ≡ None →
         record { count = s.count; shade = number_in s.best; gap = gap_of s (keys_of ss); e = s.e } ≡ answered (nearest budget ss)
-    unfolding goes_on gap_of
-    looking_end t = go (ltb i (places)) refl (ltb s.count budget) refl (ltb (difference_in key_here) s.e) refl t
+    unfolding gap_of
+    looking_end t = go s.next refl
       where
-        told : (gap : ℕ) → searched s.count l.best gap ≡ nearest budget ss →
-            record { count = s.count; shade = number_in s.best; gap = gap; e = s.e } ≡ answered (nearest budget ss)
-        told gap w =
+        told : {gap : ℕ} → gap_of s (keys_of ss) ≡ gap → searched s.count l.best gap ≡ nearest budget ss →
+            record { count = s.count; shade = number_in s.best; gap = gap_of s (keys_of ss); e = s.e } ≡ answered (nearest budget ss)
+        told g w =
             let q : number_in s.best ≡ l.best.number = ap number_in l.key ∙ number_in_lem l.best l.small in
-            (λ j. record { count = s.count; shade = q j; gap = gap; e = l.value j }) ∙ ap answered w
+            (λ j. record { count = s.count; shade = q j; gap = g j; e = l.value j }) ∙ ap answered w
 
-        ended : (h : i < length ss) →
-            tries budget s.count l.best (here ∷ remaining (shade_key here + 1) (in_order ss)) ≡ searched s.count l.best (l.best.e - here.difference) →
-            record { count = s.count; shade = number_in s.best; gap = s.e - difference_in key_here; e = s.e } ≡ answered (nearest budget ss)
-        ended h w =
-            told (s.e - difference_in key_here)
-            ((λ j. searched s.count l.best (l.value j - difference_here h j)) ∙ sym w ∙ from_here h)
+        ended : {i : ℕ} (is : s.next ≡ Some i) →
+            tries budget s.count l.best (shade_at ss i ∷ remaining (shade_key (shade_at ss i) + 1) (in_order ss))
+            ≡ searched s.count l.best (l.best.e - (shade_at ss i).difference) →
+            record { count = s.count; shade = number_in s.best; gap = gap_of s (keys_of ss); e = s.e } ≡ answered (nearest budget ss)
+        ended {i} is w = told (rw (difference_here is) (ap (λ (x : ℕ). x - (shade_at ss i).difference) l.value)) (sym w ∙ from_here is)
 
-        go : (a : Bool) → ltb i (places) ≡ a → (b : Bool) → ltb s.count budget ≡ b →
-            (c : Bool) → ltb (difference_in key_here) s.e ≡ c → (a && (b && c)) ≡ false →
-            record {
-              count = s.count;
-              shade = number_in s.best;
-              gap = cond a (s.e - difference_in key_here) 0;
-              e = s.e;
-            } ≡ answered (nearest budget ss)
-        go false p b q c r t =
-            told 0
+        far : {i : ℕ} → s.next ≡ Some i → (b : Bool) → ltb s.count budget ≡ b →
+            (c : Bool) → ltb (shade_at ss i).difference s.e ≡ c → (b && c) ≡ false →
+            record { count = s.count; shade = number_in s.best; gap = gap_of s (keys_of ss); e = s.e } ≡ answered (nearest budget ss)
+        far {i} is false q c r t = ended is (tries_used budget s.count l.best (shade_at ss i) _ (ltb-false s.count budget q))
+        far {i} is true q false r t =
+            ended is (tries_far budget s.count l.best (shade_at ss i) _ (omega (arith, l.value, ltb-false (shade_at ss i).difference s.e r)))
+        far is true q true r t = absurd cc
+
+        go : (next : Option ℕ) → s.next ≡ next →
+            record { count = s.count; shade = number_in s.best; gap = gap_of s (keys_of ss); e = s.e } ≡ answered (nearest budget ss)
+        go None is =
+            told (rw (no_difference s (keys_of ss) is))
             (sym
-            (ap (tries budget s.count l.best) (left_none ss l.from i l.next (omega (arith, keys_length ss, ltb-false i places p)))
+            (ap (tries budget s.count l.best) (left_none ss l.from (subst (NextIs (keys_of ss) l.from) is l.next))
             ∙ tries_end budget s.count l.best)
             ∙ l.whole)
-        go true p false q c r t =
-            ended (omega (arith, keys_length ss, ltb-true i places p)) (tries_used budget s.count l.best here _ (ltb-false s.count budget q))
-        go true p true q false r t =
-            let h : i < length ss = omega (arith, keys_length ss, ltb-true i places p) in
-            ended h (tries_far budget s.count l.best here _ (omega (arith, difference_here h, l.value, ltb-false (difference_in key_here) s.e r)))
-        go true p true q true r t = let z : ◌≡◌ {A = ℕ} 0 1 = cc in absurd (omega arith)
+        go (Some i) is =
+            far is (ltb s.count budget) refl (ltb (shade_at ss i).difference s.e) refl (sym (test_here is) ∙ turn_left s budget (keys_of ss) is t)

@@ -1,5 +1,6 @@
 -- How the code finds the next shade and holds a search: the difference of L and the number of a shade as one number. Assumes nothing.
-use Rattle.std.specs.Prelude.{Bool, ◌&&◌, ◌||◌, cond, List, map, ℕ, ◌+◌, ◌-◌, ◌*◌, ◌/◌, ◌%◌, ◌^◌, ◌≤◌, ◌<◌, ltb, eqb, length, get_or}
+use Rattle.std.specs.Prelude.{Bool, false, if◌then◌else◌, ◌&&◌, ◌||◌, cond, List, map, slice_get, Option, None, MatchOption, ℕ, ◌+◌, ◌-◌, ◌*◌, ◌/◌, ◌%◌, ◌^◌, ◌≤◌, ◌<◌, ltb, eqb, length, get_or}
+use Rattle.std.specs.Option.{option_map, option_map_or, option_and_then}
 use Rattle.nearest.specs.declared.Search.{Search}
 use Rattle.nearest.specs.Rule.{Shade}
 
@@ -30,26 +31,38 @@ key_range = 2 ^ 48
 pub record SmallKeys (keys : List ℕ) : Type 0 where
   pub below : (i : ℕ) → i < length keys → get_or keys i 0 < key_range
 
--- the place of the least key from a number on; the number of keys where none is so high
-pub record NextIs (keys : List ℕ) (from r : ℕ) : Type 0 where
-  pub inside : r ≤ length keys
-  pub high : r < length keys → from ≤ get_or keys r 0
-  pub least : (j : ℕ) → j < length keys → from ≤ get_or keys j 0 → (r < length keys) × (get_or keys r 0 ≤ get_or keys j 0)
+-- the place of the least key from a number on
+pub record IsNext (keys : List ℕ) (from i : ℕ) : Type 0 where
+  pub inside : i < length keys
+  pub high : from ≤ get_or keys i 0
+  pub least : (j : ℕ) → j < length keys → from ≤ get_or keys j 0 → get_or keys i 0 ≤ get_or keys j 0
 
--- a search after its first full comparison, of a key; the next shade is at a place
-abbrev pub begun : ℕ → ℕ → ℕ → Search
+-- that place; none where no key is so high
+abbrev pub NextIs : List ℕ → ℕ → Option ℕ → Type 0
+NextIs keys from r = MatchOption r ((j : ℕ) → j < length keys → get_or keys j 0 < from) (IsNext keys from)
+
+-- a search after its first full comparison, of a key; the next shade is at a place, if one remains
+abbrev pub begun : ℕ → ℕ → Option ℕ → Search
 begun key e next = record { count = 1; best = key; e = e; next = next }
+
+-- the difference of L of the next shade, where one remains
+unfoldable pub next_difference : Search → List ℕ → Option ℕ
+next_difference s keys = option_map difference_in (option_and_then (slice_get keys) s.next)
 
 -- whether the next shade is tried: there is one, the budget is not used, and its difference of L is below the best E
 unfoldable pub goes_on : Search → ℕ → List ℕ → Bool
-goes_on s budget keys = ltb s.next (length keys) && (ltb s.count budget && ltb (difference_in (get_or keys s.next 0)) s.e)
+goes_on s budget keys = option_map_or (λ difference. ltb s.count budget && ltb difference s.e) (next_difference s keys) false
+
+-- the place of the shade that is tried next, where the search goes on
+unfoldable pub turn : Search → ℕ → List ℕ → Option ℕ
+turn s budget keys = if goes_on s budget keys then s.next else None
 
 -- whether a full comparison takes the place of the best one so far
 abbrev pub is_closer : Search → ℕ → ℕ → Bool
 is_closer s key e = ltb e s.e || (eqb e s.e && ltb (number_in key) (number_in s.best))
 
 -- a search after one full comparison more
-unfoldable pub compared : Search → ℕ → ℕ → ℕ → Search
+unfoldable pub compared : Search → ℕ → ℕ → Option ℕ → Search
 compared s key e next =
     cond (is_closer s key e)
     (record { count = s.count + 1; best = key; e = e; next = next })
@@ -57,4 +70,4 @@ compared s key e next =
 
 -- the best E less the next difference of L, where a shade remains
 unfoldable pub gap_of : Search → List ℕ → ℕ
-gap_of s keys = cond (ltb s.next (length keys)) (s.e - difference_in (get_or keys s.next 0)) 0
+gap_of s keys = option_map_or (λ difference. s.e - difference) (next_difference s keys) 0

@@ -68,18 +68,31 @@ every_limit limit rows readings h zero at = refl
 every_limit limit rows readings h (suc n) at =
     rw (le-ltb limit (get_or readings at 0) (below limit readings at h)) (every_limit limit rows readings h n (at + rows))
 
--- one spot, and then the others
-pub sum_more : (rows at n : ℕ) (readings : List ℕ) → 0 < n
-    → sum_of (every_from rows at n readings) ≡ get_or readings at 0 + sum_of (every_from rows (at + rows) (n - 1) readings)
-unfolding every_from sum_of
-sum_more rows at zero readings h = let z : ◌≡◌ {A = ℕ} 0 1 = omega arith in cc
-sum_more rows at (suc n) readings h =
-    let k : suc n - 1 ≡ n = omega arith in
-    ap (λ (m : ℕ). get_or readings at 0 + sum_of (every_from rows (at + rows) m readings)) (sym k)
+-- the sum of a row's readings from the i-th spot of count on: all of them, one spot and then the others, none
+abbrev pub sum_from : ℕ → ℕ → ℕ → List ℕ → ℕ → ℕ
+sum_from rows row count readings i = sum_of (every_from rows (row + rows * i) (count - i) readings)
 
-pub sum_none : (rows at n : ℕ) (readings : List ℕ) → n ≡ 0 → sum_of (every_from rows at n readings) ≡ 0
-unfolding every_from sum_of
-sum_none rows at n readings e = rw e
+module _ (rows row count : ℕ) (readings : List ℕ) where
+  pub sum_all : row < rows → sum_from rows row count readings 0 ≡ sum_of (at_row (spots_of rows count readings) row)
+  sum_all within =
+      let first : row + rows * 0 ≡ row = omega arith in
+      let all : count - 0 ≡ count = omega arith in
+      ap (λ (at : ℕ). sum_of (every_from rows at (count - 0) readings)) first ∙ ap (λ (n : ℕ). sum_of (every_from rows row n readings)) all
+      ∙ ap sum_of (sym (row_is rows row within readings count))
+
+  pub sum_more : (i : ℕ) → i < count
+      → sum_from rows row count readings i ≡ get_or readings (row + rows * i) 0 + sum_from rows row count readings (i + 1)
+  unfolding every_from sum_of
+  sum_more i h =
+      let at = row + rows * i in
+      let more : count - i ≡ suc (count - (i + 1)) = omega arith in
+      let next : at + rows ≡ row + rows * (i + 1) = omega arith in
+      ap (λ (n : ℕ). sum_of (every_from rows at n readings)) more
+      ∙ ap (λ (x : ℕ). get_or readings at 0 + sum_of (every_from rows x (count - (i + 1)) readings)) next
+
+  pub sum_none : (i : ℕ) → count ≤ i → sum_from rows row count readings i ≡ 0
+  unfolding every_from sum_of
+  sum_none i h = let e : count - i ≡ 0 = omega arith in rw e
 
 -- the readings of a row, where a pooling's checks have passed: their sum is small, and what they pool to is as the code makes it and obeys the limit
 module _ {rows count : ℕ} {readings : List ℕ} (s : WholeSpots rows count readings) (row : ℕ) where

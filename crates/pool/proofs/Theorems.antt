@@ -8,7 +8,7 @@ use borrow.Author.Tests.{eqb-true, not-false}
 use lib.ListN.{length, get_or, drop, replicate, drop_of_length-le}
 use lib.Seq.{drop-cons, length-take-le}
 use Rattle.causes.specs.declared.Cause.{Cause}
-use Rattle.causes.specs.declared.Checked.TheVariants.{Clear}
+use Rattle.std.specs.Prelude.{Ok}
 use Rattle.causes.specs.declared.Cause.TheVariants.{OverBright}
 use Rattle.causes.specs.Causes.{accepted, refusal}
 use Rattle.causes.specs.Checks.{check, first_of, unless}
@@ -58,7 +58,7 @@ any_spot_order spacing count readings others places n d = (
 
 -- what an accepted pooling has shown, and what it leaves
 module _ (spacing count : ℕ) (readings places : List ℕ) (e : pooled spacing count readings (length places) ≡ accepted 0) where
-  clear : first_of (pool_checks spacing count readings (length places)) ≡ Clear
+  clear : first_of (pool_checks spacing count readings (length places)) ≡ Ok tt
   unfolding pooled
   clear = (numbered_accepted (first_of (pool_checks spacing count readings (length places))) 0 0 e).0
 

@@ -1,18 +1,17 @@
 -- Document 02, "Several spots, one reading": what a pooling at a spacing answers and what it leaves, refusals included. Assumes nothing.
-use Rattle.std.specs.Prelude.{ℕ, ◌*◌, not, List, [], ◌∷◌, length, eqb}
+use Rattle.std.specs.Prelude.{ℕ, ◌*◌, not, List, [], ◌∷◌, length, eqb, Result, Ok, Err}
+use Rattle.causes.specs.declared.Cause.{Cause}
 use Rattle.causes.specs.declared.Cause.TheVariants.{ShortTable, OverBright, UnknownSpacing, SpotCount}
 use Rattle.causes.specs.Causes.{Numbered, accepted, refusal}
 use Rattle.causes.specs.Checks.{Check, check, first_of, unless, numbered}
 use Rattle.cie.specs.Scales.{any_above, frame_limit}
 use Rattle.cie.specs.Spacing.{unknown_spacing, rows_at}
 use Rattle.pool.specs.Spots.{off_count, spots_of, pooled_spectrum}
-use Rattle.pool.specs.declared.Pooled.{Pooled}
-use Rattle.pool.specs.declared.Pooled.TheVariants.{Whole, Refused}
 
 -- what a pooling answers, in the paper's numbers
-abbrev pub pool_answer : Pooled → Numbered ℕ
-pool_answer Whole = accepted 0
-pool_answer (Refused cause) = refusal cause
+abbrev pub pool_answer : Result (Unit {0}) Cause → Numbered ℕ
+pool_answer (Ok done) = accepted 0
+pool_answer (Err cause) = refusal cause
 
 -- "After 17 the checks run: spot count, then 1 for either slice, then 2."; "Readings obey the 12,000 limit"
 unfoldable pub pool_checks : ℕ → ℕ → List ℕ → ℕ → List Check

@@ -13,21 +13,11 @@ const FEWEST_SPOTS: u32 = 2;
 
 pub const MOST_SPOTS: u32 = 16;
 
-// What a pooling answers: that the places hold the pooled spectrum, or a cause.
-#[derive(Clone, Copy)]
-pub enum Pooled {
-    Whole,
-    Refused(Cause),
-}
-
 // Whether there are too few spots or too many.
 fn is_off(count: u32) -> bool
     ensures { result ≡ off_count count }
 {
-    if count < FEWEST_SPOTS {
-        return true;
-    }
-    MOST_SPOTS < count
+    !(FEWEST_SPOTS..=MOST_SPOTS).contains(&count)
 }
 
 // The sum of the spots' readings at a row: they are so many rows apart.
@@ -35,13 +25,9 @@ fn sum_at(spots: &[u16], rows: usize, count: u32, row: usize) -> u32
     requires { WholeSpots rows count spots.now × (row < rows) }
     ensures { result ≡ sum_of (at_row (spots_of rows count spots.now) row) }
 {
-    let mut sum: u32 = 0;
-    let mut at = row;
-    let mut left = count;
-    while left > 0 {
-        sum += spots[at] as u32;
-        at += rows;
-        left -= 1;
+    let mut sum = 0;
+    for i in 0..count as usize {
+        sum += u32::from(spots[row + rows * i]);
     }
     sum
 }
@@ -60,34 +46,33 @@ fn pool_rows(spots: &[u16], count: u32, places: &mut [u16])
     requires { WholeSpots (length places.old) count spots.now }
     ensures { places.new ≡ pooled_spectrum (length places.old) (spots_of (length places.old) count spots.now) }
 {
-    let mut row = 0;
-    while row < places.len() {
-        places[row] = pooled_at(spots, places.len(), count, row);
-        row += 1;
+    let rows = places.len();
+    for (row, place) in places.iter_mut().enumerate() {
+        *place = pooled_at(spots, rows, count, row);
     }
 }
 
 // Pools so many spots, one after another, into as many places as the spacing has rows.
-pub fn pool(spacing: u32, count: u32, spots: &[u16], places: &mut [u16]) -> Pooled
+pub fn pool(spacing: u32, count: u32, spots: &[u16], places: &mut [u16]) -> Result<(), Cause>
     ensures result_value { pool_answer result ≡ pooled spacing count spots.now (length places.old) }
     ensures places_after { places.new ≡ places_after_pool spacing count spots.now places.old }
 {
     if cie::spacing::is_unknown(spacing) {
-        return Pooled::Refused(Cause::UnknownSpacing);
+        return Err(Cause::UnknownSpacing);
     }
     if is_off(count) {
-        return Pooled::Refused(Cause::SpotCount);
+        return Err(Cause::SpotCount);
     }
     let rows = cie::spacing::rows_at(spacing);
     if spots.len() != rows * count as usize {
-        return Pooled::Refused(Cause::ShortTable);
+        return Err(Cause::ShortTable);
     }
     if places.len() != rows {
-        return Pooled::Refused(Cause::ShortTable);
+        return Err(Cause::ShortTable);
     }
     if cie::spectrum::over_bright(spots, FRAME_LIMIT) {
-        return Pooled::Refused(Cause::OverBright);
+        return Err(Cause::OverBright);
     }
     pool_rows(spots, count, places);
-    Pooled::Whole
+    Ok(())
 }

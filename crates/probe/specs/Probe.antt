@@ -1,7 +1,8 @@
 -- What the calls from C answer, as numbers, and the list of calls behind a run of trials. Assumes nothing.
-use Rattle.std.specs.Prelude.{ℕ, zero, suc, ◌+◌, ◌^◌, List}
+use Rattle.std.specs.Prelude.{ℕ, zero, suc, ◌+◌, ◌^◌, List, Result, Ok, Err}
 use Rattle.causes.specs.Causes as causes
-use Rattle.causes.specs.Causes.{Numbered}
+use Rattle.causes.specs.Causes.{cause_number, Numbered}
+use Rattle.causes.specs.declared.Cause.{Cause}
 use Rattle.cie.specs.declared.Space.TheVariants.{Cielab}
 use Rattle.cie.specs.Spacing.{fine_spacing}
 use Rattle.tallies.specs.ByTable.{at_table}
@@ -20,6 +21,11 @@ count_code (causes.refused cause) = 2 ^ 32 + cause
 abbrev pub cause_code : Numbered ℕ → ℕ
 cause_code (causes.accepted n) = 0
 cause_code (causes.refused cause) = cause
+
+-- the same of a call that only accepts
+abbrev pub done_code : Result Unit Cause → ℕ
+done_code (Ok done) = 0
+done_code (Err cause) = cause_number cause
 
 -- the session that a call leaves
 unfoldable pub after : Session → Call → Session

@@ -1,195 +1,113 @@
 // A line's call made, its spots pooled or its shade struck, and the answer printed.
-ghost use Rattle.std.specs.Prelude.{◌≤◌, length};
-ghost use Rattle.cie.specs.Spacing.{most_rows};
+ghost use Rattle.std.specs.Prelude.{◌≤◌};
 ghost use Rattle.session.specs.Served.{Valid};
 
-use crate::form::{Asked, BOOK_LENGTH, BYTES, LENGTH, NUMBER, SPACING, SPOTS, STRETCH, Stage};
-use crate::line::Line;
+use crate::form::{
+    Asked, BOOK_LENGTH, BYTES, ENTRIES, LENGTH, NUMBER, SPACING, SPOTS, STRETCH, Stage,
+};
+use crate::line::{Line, capped};
 use crate::reader::Reader;
-use crate::{beside, line, print};
+use crate::{beside, print};
+use cie::spacing;
 use cie::spacing::MOST_ROWS;
-use pool::Pooled;
-use session::{Answer, Session};
-use strike::Struck;
+use session::Session;
 
 // The number, or the largest of 16 bits.
 fn short(n: u32) -> u16 {
-    if n < 65535 {
-        return n as u16;
-    }
-    65535
+    u16::try_from(n).unwrap_or(u16::MAX)
 }
 
-// The first entries as readings.
-fn put_readings(entries: &[u32], readings: &mut [u16])
-    requires { length readings.old ≤ length entries.now }
+// The first entries in as many places as are lent, each as it is converted.
+fn put<T: Copy, F: Fn(u32) -> T + Drop>(entries: &[u32], places: &mut [T], convert: F)
+    requires { F.IsAlwaysCallable convert }
 {
-    let mut i = 0;
-    while i < readings.len() {
-        readings[i] = short(entries[i]);
-        i = i + 1;
+    for (place, &entry) in places.iter_mut().zip(entries) {
+        *place = convert(entry);
     }
 }
 
 // Makes the call of a line, with the book that it has, and prints its answer.
-fn called(
+fn call(
     rt: &impl Print,
-    session: Session,
+    session: &mut Session,
     record: &[u32],
-    entries: &[u32; 34089],
+    entries: &[u32; ENTRIES],
     book: &[u8],
-) -> Session
-    requires { Valid session }
-    ensures { Valid result }
+)
+    requires { Valid session.old }
+    ensures { Valid session.new }
 {
     let mut readings = [0u16; STRETCH];
-    put_readings(entries, &mut readings);
-    let served = calls::call(session, record, entries, &readings, book);
-    let answer = served.answer;
-    print::print(rt, answer);
-    served.session
+    put(entries, &mut readings, short);
+    let served = calls::call(*session, record, entries, &readings, book);
+    *session = served.session;
+    print::print(rt, served.answer);
 }
 
-// Pools the first entries, into as many places as the spacing has rows, and prints the spectrum.
-fn pooled(
-    rt: &impl Print,
-    spacing: u32,
-    count: u32,
-    entries: &[u32],
-    spots: &mut [u16],
-    places: &mut [u16],
-)
-    requires { (length spots.old ≤ length entries.now) × (length places.old ≤ most_rows) }
-{
-    put_readings(entries, spots);
-    match pool::pool(spacing, count, spots, places) {
-        Pooled::Whole => beside::print_spectrum(rt, places),
-        Pooled::Refused(cause) => print::print(rt, Answer::Refused(cause)),
+// Pools the spots of a line, into as many places as its spacing has rows, and prints the spectrum.
+fn pool(rt: &impl Print, line: Line, entries: &[u32; ENTRIES]) {
+    let mut spots = [0u16; SPOTS];
+    let mut places = [0u16; MOST_ROWS];
+    let n = (line.record[LENGTH] as usize).min(SPOTS);
+    let spots = &mut spots[..n];
+    put(entries, spots, short);
+    let spacing = line.record[SPACING];
+    let places = &mut places[..spacing::rows_at(spacing)];
+    match pool::pool(spacing, line.record[NUMBER], spots, places) {
+        Ok(()) => beside::print_spectrum(rt, places),
+        Err(cause) => print::print(rt, Err(cause)),
     }
 }
 
-// How many entries a line has, by a word that counts them up to the room that they have.
-fn counted(n: u32, room: usize) -> usize
-    ensures { result ≤ room }
+// The bytes of a line, in room that is lent: how many they are.
+fn put_buffer(line: Line, entries: &[u32; ENTRIES], room: &mut [u8; BYTES]) -> usize
+    ensures { result ≤ BYTES }
 {
-    let entries = n as usize;
-    if entries < room {
-        return entries;
-    }
-    room
-}
-
-// Answers the line of a pooling, in room that is lent for its spots and its spectrum.
-fn pooled_line(
-    rt: &impl Print,
-    record: [u32; 10],
-    entries: &[u32],
-    spots: &mut [u16],
-    places: &mut [u16],
-)
-    requires { (1297 ≤ length entries.now) × (1297 ≤ length spots.old) × (most_rows ≤ length places.old) }
-{
-    let n = counted(record[LENGTH], SPOTS);
-    let spacing = record[SPACING];
-    let rows = cie::spacing::rows_at(spacing);
-    pooled(
-        rt,
-        spacing,
-        record[NUMBER],
-        entries,
-        &mut spots[..n],
-        &mut places[..rows],
+    let n = ((line.digits / 2) as usize).min(BYTES);
+    put(
+        &entries[STRETCH..],
+        &mut room[..n],
+        |entry| (entry % 256) as u8,
     );
-}
-
-// The first entries as bytes.
-fn put_bytes(entries: &[u32], bytes: &mut [u8])
-    requires { length bytes.old ≤ length entries.now }
-{
-    let mut i = 0;
-    while i < bytes.len() {
-        bytes[i] = (entries[i] % 256) as u8;
-        i = i + 1;
-    }
-}
-
-// The bytes of a line with so many digits, in room that is lent: how many they are.
-fn buffer_of(digits: u32, entries: &[u32], room: &mut [u8]) -> usize
-    requires { (34089 ≤ length entries.now) × (34007 ≤ length room.old) }
-    ensures { result ≤ 34007 }
-{
-    let n = counted(digits / 2, BYTES);
-    put_bytes(&entries[STRETCH..], &mut room[..n]);
     n
 }
 
-// Strikes a shade of the book that fills a buffer, and prints what is left.
-fn struck(rt: &impl Print, spacing: u32, number: u16, buffer: &mut [u8])
-    requires { length buffer.old ≤ 34007 }
-{
-    match strike::strike(spacing, number, buffer) {
-        Struck::Left(left) => beside::print_struck(rt, line::capped(left as u64), buffer),
-        Struck::Refused(cause) => print::print(rt, Answer::Refused(cause)),
+// Strikes a shade of the book that fills a line's buffer, and prints what is left.
+fn strike(rt: &impl Print, line: Line, entries: &[u32; ENTRIES]) {
+    let mut room = [0u8; BYTES];
+    let n = put_buffer(line, entries, &mut room);
+    let buffer = &mut room[..n];
+    match strike::strike(line.record[SPACING], short(line.record[NUMBER]), buffer) {
+        Ok(left) => beside::print_struck(rt, capped(left as u64), buffer),
+        Err(cause) => print::print(rt, Err(cause)),
     }
 }
 
-// Answers the line of a strike.
-fn struck_line(rt: &impl Print, line: Line, entries: &[u32])
-    requires { 34089 ≤ length entries.now }
-{
-    let record = line.record;
-    let mut buffer = [0u8; BYTES];
-    let n = buffer_of(line.digits, entries, &mut buffer);
-    struck(rt, record[SPACING], short(record[NUMBER]), &mut buffer[..n]);
-}
-
-// Answers the line of a search.
-fn searched_line(rt: &impl Print, session: Session, line: Line, entries: &[u32; 34089]) -> Session
-    requires { Valid session }
-    ensures { Valid result }
+// Makes the search of a line, in the book that fills its buffer.
+fn search(rt: &impl Print, session: &mut Session, line: Line, entries: &[u32; ENTRIES])
+    requires { Valid session.old }
+    ensures { Valid session.new }
 {
     let mut record = line.record;
-    let mut buffer = [0u8; BYTES];
-    let n = buffer_of(line.digits, entries, &mut buffer);
+    let mut room = [0u8; BYTES];
+    let n = put_buffer(line, entries, &mut room);
     record[BOOK_LENGTH] = n as u32;
-    called(rt, session, &record, entries, &buffer[..n])
+    call(rt, session, &record, entries, &room[..n]);
 }
 
-// Answers the line that ends here, and returns the session that it leaves. An empty line is passed over.
-pub fn answered(
-    rt: &impl Print,
-    session: Session,
-    reader: Reader,
-    entries: &mut [u32; 34089],
-) -> Session
-    requires { Valid session }
-    ensures { Valid result }
+// Answers the line that ends here, by the session or beside it. An empty line is passed over.
+pub fn answer(rt: &impl Print, session: &mut Session, reader: &mut Reader)
+    requires { Valid session.old }
+    ensures { Valid session.new }
 {
-    let line = reader.ended(entries);
-    let stage = line.stage;
-    let asked = line.asked;
-    match stage {
-        Stage::Start => session,
-        Stage::End => {
-            let record = line.record;
-            match asked {
-                Asked::Call => called(rt, session, &record, entries, b""),
-                Asked::Search => searched_line(rt, session, line, entries),
-                Asked::Pool => {
-                    let mut spots = [0u16; SPOTS];
-                    let mut places = [0u16; MOST_ROWS];
-                    pooled_line(rt, record, entries, &mut spots, &mut places);
-                    session
-                }
-                Asked::Strike => {
-                    struck_line(rt, line, entries);
-                    session
-                }
-            }
-        }
-        _ => {
-            print::print_unreadable(rt);
-            session
-        }
+    let line = reader.end();
+    let entries = &reader.entries;
+    match (line.stage, line.asked) {
+        (Stage::Start, _) => {}
+        (Stage::End, Asked::Call) => call(rt, session, &line.record, entries, b""),
+        (Stage::End, Asked::Search) => search(rt, session, line, entries),
+        (Stage::End, Asked::Pool) => pool(rt, line, entries),
+        (Stage::End, Asked::Strike) => strike(rt, line, entries),
+        _ => print::print_unreadable(rt),
     }
 }

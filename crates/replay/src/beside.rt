@@ -1,58 +1,41 @@
 // What a pooling and a strike answer, as lines of text on standard output.
-ghost use Rattle.std.specs.Prelude.{◌+◌, ◌*◌, ◌≤◌, length};
+ghost use Rattle.std.specs.Prelude.{◌≤◌, length};
 ghost use Rattle.cie.specs.Spacing.{most_rows};
 
-use crate::{hex, print};
+use crate::form::BYTES;
+use crate::hex;
+use crate::sheet::Sheet;
+use cie::spacing::MOST_ROWS;
 
-// Readings, each after a space.
-fn put_fields(out: &mut [u8], at: usize, readings: &[u16]) -> usize
-    requires { at + 11 * length readings.now ≤ length out.old }
-    ensures { result ≤ at + 11 * length readings.now }
-{
-    let mut end = at;
-    let mut i = 0;
-    while i < readings.len() {
-        end = print::put_field(out, end, readings[i] as u32);
-        i += 1;
-    }
-    end
-}
+// The longest line of a spectrum: its word, a field for each number, and the line end.
+const SPECTRUM: usize = 8 + 11 * (1 + MOST_ROWS) + 1;
 
-// A spectrum without its line end: how many readings, then each.
-fn put_spectrum(out: &mut [u8], readings: &[u16]) -> usize
-    requires { (length readings.now ≤ most_rows) × (910 ≤ length out.old) }
-    ensures { result ≤ 910 }
-{
-    let named = text::put(out, 0, b"spectrum");
-    let counted = print::put_field(out, named, readings.len() as u32);
-    put_fields(out, counted, readings)
-}
+// The longest line of a strike: its word, the book's length, a space, two digits a byte, and the line end.
+const STRUCK: usize = 6 + 11 + 1 + 2 * BYTES + 1;
 
+// A spectrum: how many readings, then each.
 pub fn print_spectrum(rt: &impl Print, readings: &[u16])
     requires { length readings.now ≤ most_rows }
 {
-    let mut out = [0u8; 911];
-    let at = put_spectrum(&mut out, readings);
-    let n = print::put_end(&mut out, at);
-    let _ = rt.write_all(&out[..n]);
+    let mut sheet = Sheet::<SPECTRUM>::new();
+    sheet.put(b"spectrum");
+    sheet.put_field(readings.len() as u32);
+    for &reading in readings {
+        sheet.put_field(reading as u32);
+    }
+    sheet.print(rt);
 }
 
-// What a strike left, without its line end: the book's length, then the whole buffer.
-fn put_struck(out: &mut [u8], left: u32, buffer: &[u8]) -> usize
-    requires { (length buffer.now ≤ 34007) × (68032 ≤ length out.old) }
-    ensures { result ≤ 68032 }
-{
-    let named = text::put(out, 0, b"struck");
-    let counted = print::put_field(out, named, left);
-    let spaced = text::put(out, counted, b" ");
-    hex::put_bytes(out, spaced, buffer)
-}
-
+// What a strike left: the book's length, then the whole buffer.
 pub fn print_struck(rt: &impl Print, left: u32, buffer: &[u8])
-    requires { length buffer.now ≤ 34007 }
+    requires { length buffer.now ≤ BYTES }
 {
-    let mut out = [0u8; 68033];
-    let at = put_struck(&mut out, left, buffer);
-    let n = print::put_end(&mut out, at);
-    let _ = rt.write_all(&out[..n]);
+    let mut sheet = Sheet::<STRUCK>::new();
+    sheet.put(b"struck");
+    sheet.put_field(left);
+    sheet.put(b" ");
+    for &byte in buffer {
+        hex::put_byte(&mut sheet, byte);
+    }
+    sheet.print(rt);
 }

@@ -3,7 +3,7 @@ use book::layout::{ENTRY, HEAD, MOST_SHADES};
 use cie::spacing::{MOST_ROWS, READING_BYTES};
 use pool::MOST_SPOTS;
 
-// The tables of a call stand one after the other among the lent entries, each in a stretch of 82: one more than a table may
+// The tables of a call stand one after the other among the entries, each in a stretch of 82: one more than a table may
 // have, so that a longer one is seen to be too long.
 pub const STRETCH: usize = MOST_ROWS + 1;
 
@@ -18,7 +18,7 @@ pub const BYTES: usize = HEAD + (ENTRY + READING_BYTES * MOST_ROWS) * MOST_SHADE
 pub const ENTRIES: usize = STRETCH + BYTES;
 
 // What a line asks for: a call of the session, one with a book, spots pooled, or a shade struck.
-#[derive(Clone, Copy)]
+#[derive(Clone, Copy, Debug, PartialEq, Eq, Hash)]
 pub enum Asked {
     Call,
     Search,
@@ -26,14 +26,14 @@ pub enum Asked {
     Strike,
 }
 
-// What may come next.
-#[derive(Clone, Copy)]
+// What may come next: an entry of the present table with how many of them are still to come, and a digit of a buffer.
+#[derive(Clone, Copy, Debug, PartialEq, Eq, Hash)]
 pub enum Stage {
     Start,
     Space,
     Number,
     Length,
-    Entry,
+    Entry(u64),
     Digits,
     End,
     Unreadable,

@@ -3,7 +3,6 @@
 
 ghost use Rattle.session.specs.Served.{Valid};
 
-use form::ENTRIES;
 use reader::Reader;
 use session::Session;
 use std::io::Read;
@@ -16,69 +15,44 @@ mod hex;
 mod line;
 mod print;
 mod reader;
+mod sheet;
 mod token;
 
-// The session, what has been read of the line that is not ended, and whether the script may go on.
-#[derive(Clone, Copy)]
-pub struct Played {
-    session: Session,
-    reader: Reader,
-    more: bool,
-}
-
 // Plays a piece of the script: each line that ends in it is answered.
-fn play(rt: &impl Print, played: Played, piece: &[u8], entries: &mut [u32; 34089]) -> Played
-    requires { Valid played.session }
-    ensures { Valid result.session }
+fn play(rt: &impl Print, session: &mut Session, reader: &mut Reader, piece: &[u8])
+    requires { Valid session.old }
+    ensures { Valid session.new }
 {
-    let mut session = played.session;
-    let mut reader = played.reader;
-    let mut i = 0;
-    while i < piece.len() {
-        let byte = piece[i];
-        i = i + 1;
-        if byte != b'\n' {
-            reader = reader.with_byte(byte, entries);
-            continue;
+    for &byte in piece {
+        if byte == b'\n' {
+            answer::answer(rt, session, reader);
+        } else {
+            reader.take(byte);
         }
-        session = answer::answered(rt, session, reader, entries);
-        reader = Reader::new();
-    }
-    Played {
-        session: session,
-        reader: reader,
-        more: 0 < piece.len(),
     }
 }
 
 // Plays the whole script, a piece at a time; a read that fails ends it. A proved loop has to end, and nothing says that a script
-// does: so the loop counts its turns down, from a number that no run uses up.
-fn play_all(rt: &(impl Input + Print), played: Played, entries: &mut [u32; 34089]) -> Played
-    requires { Valid played.session }
-    ensures { Valid result.session }
+// does: so it has a number of turns that no run uses up.
+fn play_all(rt: &(impl Input + Print), session: &mut Session, reader: &mut Reader)
+    requires { Valid session.old }
+    ensures { Valid session.new }
 {
     let mut input = rt.reader();
-    let mut next = played;
-    let mut turns = u64::MAX;
-    while turns > 0 && next.more {
-        let mut piece = [0u8; 65536];
-        let n = input.read(&mut piece).unwrap_or(0);
-        next = play(rt, next, &piece[..n], entries);
-        turns -= 1;
+    let mut room = [0u8; 65536];
+    for _ in 0..u64::MAX {
+        let n = input.read(&mut room).unwrap_or(0);
+        if n == 0 {
+            break;
+        }
+        play(rt, session, reader, &room[..n]);
     }
-    next
 }
 
 fn main(rt: HostRuntime) {
-    let mut entries = [0u32; ENTRIES];
-    let fresh = Played {
-        session: Session::fresh(),
-        reader: Reader::new(),
-        more: true,
-    };
-    let played = play_all(&rt, fresh, &mut entries);
-    let session = played.session;
-    let reader = played.reader;
+    let mut session = Session::fresh();
+    let mut reader = Reader::new();
+    play_all(&rt, &mut session, &mut reader);
     // the last line may lack its line feed
-    answer::answered(&rt, session, reader, &mut entries);
+    answer::answer(&rt, &mut session, &mut reader);
 }

@@ -1,13 +1,13 @@
-// The line that is being read, and the word of it that is not ended.
+// The line that is being read, its entries, and the word of it that is not ended.
+use crate::form::{ENTRIES, Stage};
 use crate::line::Line;
 use crate::token::Token;
 
-#[derive(Clone, Copy)]
+#[derive(Debug, Drop)]
 pub struct Reader {
     line: Line,
     token: Token,
-    // whether the line has a byte
-    begun: bool,
+    pub entries: [u32; ENTRIES],
 }
 
 impl Reader {
@@ -15,42 +15,30 @@ impl Reader {
         Reader {
             line: Line::new(),
             token: Token::new(),
-            begun: false,
+            entries: [0; ENTRIES],
         }
     }
 
     // One byte more of the line, which is no line feed.
-    pub fn with_byte(self, byte: u8, entries: &mut [u32; 34089]) -> Reader {
-        let line = self.line;
-        let token = self.token;
+    pub fn take(&mut self, byte: u8) {
         if byte == b' ' {
-            return Reader {
-                line: line.with_token(token, entries),
-                token: Token::new(),
-                begun: true,
-            };
-        }
-        if line.takes_digits() {
-            return Reader {
-                line: line.with_digit(byte, entries),
-                token: token,
-                begun: true,
-            };
-        }
-        Reader {
-            line: line,
-            token: token.with_byte(byte),
-            begun: true,
+            self.line = self.line.with_token(self.token, &mut self.entries);
+            self.token = Token::new();
+        } else if self.line.stage == Stage::Digits {
+            self.line = self.line.with_digit(byte, &mut self.entries);
+        } else {
+            self.token = self.token.with_byte(byte);
         }
     }
 
-    // The line at its end; an empty one is as it began.
-    pub fn ended(self, entries: &mut [u32; 34089]) -> Line {
-        let line = self.line;
-        let token = self.token;
-        if !self.begun {
-            return line;
+    // The line at its end, and the next is begun; one with no byte is as it began.
+    pub fn end(&mut self) -> Line {
+        let mut line = self.line;
+        if line.stage != Stage::Start || !self.token.is_empty() {
+            line = line.with_token(self.token, &mut self.entries);
         }
-        line.with_token(token, entries)
+        self.line = Line::new();
+        self.token = Token::new();
+        line
     }
 }

@@ -1,95 +1,59 @@
 // One word of a line, as its bytes come.
+ghost use Rattle.std.specs.Prelude.{◌≤◌};
+ghost use Rattle.replay.specs.declared.token.TheConstants.{ROOM};
 
-// A code or a number above these may not take another letter or digit.
-const CODE_ROOM: u64 = 500000000000000000;
+// One byte more than the longest command has, so that a longer word is seen to be none.
+const ROOM: usize = 10;
 
-const VALUE_ROOM: u64 = 1844674407370955160;
-
-const LARGEST: u64 = 18446744073709551615;
-
-#[derive(Clone, Copy)]
+#[derive(Clone, Copy, Debug, PartialEq, Eq)]
 pub struct Token {
-    // its letters a to z as digits 1 to 26 in base 32
-    code: u64,
-    // whether each byte is a letter, and whether each is a digit
-    letters: bool,
-    digits: bool,
-    // the number that its digits spell, or the largest
-    pub value: u64,
-    // whether it has no byte
-    empty: bool,
+    // its first bytes, and how many they are
+    bytes: [u8; ROOM],
+    count: usize,
+    // the number that its digits spell, or the largest; none where a byte is no digit
+    value: Option<u64>,
+    ghost within: { count ≤ ROOM },
 }
 
-// The code with one letter more, or the largest.
-fn with_letter(code: u64, letter: u8) -> u64 {
-    if letter < b'a' {
-        return LARGEST;
+// The number with one digit more, or the largest: so it is from a tenth of the largest on, where sums that saturate would still tell the last
+// ten numbers apart.
+fn with_digit(value: u64, byte: u8) -> Option<u64> {
+    match byte {
+        b'0'..=b'9' if value < u64::MAX / 10 => Some(value * 10 + (byte - b'0') as u64),
+        b'0'..=b'9' => Some(u64::MAX),
+        _ => None,
     }
-    if code <= CODE_ROOM {
-        return code * 32 + (letter - 96) as u64;
-    }
-    LARGEST
-}
-
-// The code of a word.
-fn code_of(word: &[u8]) -> u64 {
-    let mut code = 0;
-    let mut i = 0;
-    while i < word.len() {
-        code = with_letter(code, word[i]);
-        i = i + 1;
-    }
-    code
-}
-
-// The number with one digit more, or the largest.
-fn with_digit(value: u64, digit: u8) -> u64 {
-    if digit < b'0' {
-        return LARGEST;
-    }
-    if value <= VALUE_ROOM {
-        return value * 10 + ((digit - b'0') % 10) as u64;
-    }
-    LARGEST
 }
 
 impl Token {
     pub fn new() -> Token {
         Token {
-            code: 0,
-            letters: true,
-            digits: true,
-            value: 0,
-            empty: true,
+            bytes: [0; ROOM],
+            count: 0,
+            value: Some(0),
         }
     }
 
-    pub fn with_byte(self, byte: u8) -> Token {
-        Token {
-            code: with_letter(self.code, byte),
-            letters: self.letters && b'a' <= byte && byte <= b'z',
-            digits: self.digits && b'0' <= byte && byte <= b'9',
-            value: with_digit(self.value, byte),
-            empty: false,
+    pub fn with_byte(mut self, byte: u8) -> Token {
+        self.value = self.value.and_then(|value| with_digit(value, byte));
+        if self.count < ROOM {
+            self.bytes[self.count] = byte;
+            self.count += 1;
         }
+        self
     }
 
-    // Whether it spells a number.
-    pub fn is_number(self) -> bool {
-        if self.empty {
-            return false;
-        }
-        self.digits
+    pub fn is_empty(self) -> bool {
+        self.count == 0
     }
 
-    // Whether it is this word, of at most 11 letters.
-    pub fn is(self, word: &[u8]) -> bool {
-        if self.empty {
-            return false;
-        }
-        if !self.letters {
-            return false;
-        }
-        self.code == code_of(word)
+    // The number that it spells, if it is one.
+    pub fn number(self) -> Option<u64> {
+        if self.is_empty() { None } else { self.value }
+    }
+
+    // The word, or so much of it that it is no command.
+    pub fn word(&self) -> &[u8] {
+        &self.bytes[..self.count]
     }
 }

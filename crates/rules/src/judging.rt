@@ -4,7 +4,7 @@ ghost use Rattle.cie.specs.Verdict.{verdict_of};
 ghost use Rattle.cie.specs.Sizes.{Sized};
 ghost use Rattle.rules.specs.Rules.{SizedStandard, judged_by, judged_of};
 
-use crate::{Difference, Judged, Standard, Tolerance};
+use crate::{Judgement, Units};
 use cie::{Colour, Verdict};
 use colour::difference;
 
@@ -18,9 +18,9 @@ const LUV_MARGIN: u32 = 114;
 fn verdict_of(margin: u32, e: u32, t: u32) -> Verdict
     ensures { result ≡ verdict_of margin e t }
 {
-    let g = margin as u64;
-    let found = e as u64;
-    let limit = t as u64;
+    let g = u64::from(margin);
+    let found = u64::from(e);
+    let limit = u64::from(t);
     if found + g <= limit {
         return Verdict::Pass;
     }
@@ -31,30 +31,34 @@ fn verdict_of(margin: u32, e: u32, t: u32) -> Verdict
 }
 
 // The difference of the standard's colour and the trial's in the tolerance's space, and its verdict.
-fn judged_by(tolerance: Tolerance, standard: Colour, colour: Colour) -> Judged
+fn judged_by(tolerance: Units, standard: Colour, colour: Colour) -> Judgement
     requires { Sized standard × Sized colour }
     ensures { result ≡ judged_by tolerance standard colour }
 {
-    match tolerance {
-        Tolerance::Unset => Judged::Without,
-        Tolerance::Lab(amount) => {
-            let e = difference::lab_difference(standard, colour);
-            Judged::By(Difference::Lab(e), verdict_of(LAB_MARGIN, e.0, amount.0))
-        }
-        Tolerance::Luv(amount) => {
-            let e = difference::luv_difference(standard, colour);
-            Judged::By(Difference::Luv(e), verdict_of(LUV_MARGIN, e.0, amount.0))
-        }
+    let (e, margin) = match tolerance {
+        Units::Lab(_) => (
+            Units::Lab(difference::lab_difference(standard, colour)),
+            LAB_MARGIN,
+        ),
+        Units::Luv(_) => (
+            Units::Luv(difference::luv_difference(standard, colour)),
+            LUV_MARGIN,
+        ),
+    };
+    Judgement {
+        e,
+        verdict: verdict_of(margin, e.count(), tolerance.count()),
     }
 }
 
-// The judgement of a trial's colour against the standard in force.
-pub fn judge(standard: Standard, tolerance: Tolerance, colour: Colour) -> Judged
+// The judgement of a trial's colour against the standard in force; none where there is no standard or no tolerance.
+pub fn judge(
+    standard: Option<Colour>,
+    tolerance: Option<Units>,
+    colour: Colour,
+) -> Option<Judgement>
     requires { SizedStandard standard × Sized colour }
     ensures { result ≡ judged_of standard tolerance colour }
 {
-    match standard {
-        Standard::Missing => Judged::Without,
-        Standard::Of(held) => judged_by(tolerance, held, colour),
-    }
+    Some(judged_by(tolerance?, standard?, colour))
 }

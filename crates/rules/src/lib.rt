@@ -3,40 +3,25 @@
 
 ghost use Rattle.std.specs.Prelude.{◌≡◌, ltb};
 ghost use Rattle.rules.specs.Standing.{tolerance_limit};
-ghost use Rattle.rules.specs.Rules.{tolerance_of};
+ghost use Rattle.rules.specs.Rules.{tolerance_of, units_of};
 
-use cie::{Colour, LabUnits, LuvUnits, Space, Verdict};
+use cie::{LabUnits, LuvUnits, Space, Verdict};
 
 pub mod judging;
 pub mod standing;
 
-// None, or an amount in one of the two spaces.
-#[derive(Clone, Copy)]
-pub enum Tolerance {
-    Unset,
+// An amount in one of the two spaces: that of a tolerance, or E in the tolerance's space.
+#[derive(Clone, Copy, Debug, PartialEq, Eq)]
+pub enum Units {
     Lab(LabUnits),
     Luv(LuvUnits),
 }
 
-// The colour of the standard in force.
-#[derive(Clone, Copy)]
-pub enum Standard {
-    Missing,
-    Of(Colour),
-}
-
-// E in the tolerance's space.
-#[derive(Clone, Copy)]
-pub enum Difference {
-    Lab(LabUnits),
-    Luv(LuvUnits),
-}
-
-// E and its verdict; neither where there is no standard or no tolerance.
-#[derive(Clone, Copy)]
-pub enum Judged {
-    Without,
-    By(Difference, Verdict),
+// E and its verdict.
+#[derive(Clone, Copy, Debug, PartialEq, Eq)]
+pub struct Judgement {
+    pub e: Units,
+    pub verdict: Verdict,
 }
 
 // The largest amount of a tolerance.
@@ -49,11 +34,23 @@ pub fn off_scale(amount: u32) -> bool
     TOLERANCE_LIMIT < amount
 }
 
-pub fn tolerance_of(space: Space, amount: u32) -> Tolerance
+pub fn tolerance_of(space: Space, amount: u32) -> Units
     ensures { result ≡ tolerance_of space amount }
 {
     match space {
-        Space::Cielab => Tolerance::Lab(LabUnits(amount)),
-        Space::Cieluv => Tolerance::Luv(LuvUnits(amount)),
+        Space::Cielab => Units::Lab(LabUnits(amount)),
+        Space::Cieluv => Units::Luv(LuvUnits(amount)),
+    }
+}
+
+impl Units {
+    // The amount, whatever its space.
+    fn count(self) -> u32
+        ensures { result ≡ units_of self }
+    {
+        match self {
+            Units::Lab(amount) => amount.0,
+            Units::Luv(amount) => amount.0,
+        }
     }
 }

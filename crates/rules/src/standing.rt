@@ -6,55 +6,37 @@ ghost use Rattle.tallies.specs.Tallies.{tally_sum, set_of, Within};
 ghost use Rattle.rules.specs.Standing.{standing_checks};
 ghost use Rattle.rules.specs.Rules.{has_standard, has_tolerance};
 
-use crate::{Standard, Tolerance};
-use causes::{Cause, Checked};
+use crate::Units;
+use causes::Cause;
+use cie::Colour;
 use tallies::{TableTallies, is_table};
-
-fn has_standard(standard: Standard) -> bool
-    ensures { result ≡ has_standard standard }
-{
-    match standard {
-        Standard::Missing => false,
-        Standard::Of(_) => true,
-    }
-}
-
-fn has_tolerance(tolerance: Tolerance) -> bool
-    ensures { result ≡ has_tolerance tolerance }
-{
-    match tolerance {
-        Tolerance::Unset => false,
-        Tolerance::Lab(_) => true,
-        Tolerance::Luv(_) => true,
-    }
-}
 
 // The first of the checks 18, 6, 7, 8 and 10 of a trial for a table that holds.
 #[tactic(auto, unfolding(causes::specs::Checks::first_of))]
 pub fn stands(
     table: u32,
     opened: bool,
-    standard: Standard,
-    tolerance: Tolerance,
+    standard: Option<Colour>,
+    tolerance: Option<Units>,
     tallies: TableTallies,
-) -> Checked
+) -> Result<(), Cause>
     requires { Within tallies.sets }
     ensures { result ≡ first_of (standing_checks table opened (has_standard standard) (has_tolerance tolerance) (is_full (tally_sum (set_of tallies.sets table)))) }
 {
     if !is_table(table) {
-        return Checked::Because(Cause::NoSuchTable);
+        return Err(Cause::NoSuchTable);
     }
     if !opened {
-        return Checked::Because(Cause::NoConditions);
+        return Err(Cause::NoConditions);
     }
-    if !has_standard(standard) {
-        return Checked::Because(Cause::NoStandard);
+    if standard.is_none() {
+        return Err(Cause::NoStandard);
     }
-    if !has_tolerance(tolerance) {
-        return Checked::Because(Cause::NoTolerance);
+    if tolerance.is_none() {
+        return Err(Cause::NoTolerance);
     }
     if tallies.is_full(table) {
-        return Checked::Because(Cause::SessionFull);
+        return Err(Cause::SessionFull);
     }
-    Checked::Clear
+    Ok(())
 }

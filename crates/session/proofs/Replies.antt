@@ -1,69 +1,76 @@
--- What an opening and a standard reply, by what their checks found, and a trial and a look, by what they are told. Assumes nothing.
-use mathlib.Core.Path.{◌≡◌, sym, ◌∙◌, ap, subst}
+-- What an opening and a standard reply, by what preparing and measuring answer, and a trial and a look, by what they are told. Assumes nothing.
+use mathlib.Core.Path.{◌≡◌, refl, sym, ◌∙◌, ap, subst}
 use mathlib.Core.Bool.{false, not}
 use mathlib.Core.List.{List}
 use Prim.Native.Nat.{ℕ}
+use Rattle.std.specs.Prelude.{Result, Ok, Err, MatchResult, IsOkAnd}
 use Rattle.causes.specs.declared.Cause.{Cause}
-use Rattle.causes.specs.declared.Checked.{Checked}
-use Rattle.causes.specs.declared.Checked.TheVariants.{Clear, Because}
-use Rattle.causes.specs.Causes.{cause_number, Numbered}
-use Rattle.causes.specs.Checks.{unless, numbered}
-use Rattle.causes.proofs.Checks.{passes, refuses, accepts}
+use Rattle.causes.specs.Causes.{Numbered, answer_of}
+use Rattle.causes.specs.Checks.{Checked, unless, numbered}
+use Rattle.causes.proofs.Checks.{passes}
 use Rattle.cie.specs.declared.Colour.{Colour}
 use Rattle.cie.specs.declared.Sums.{Sums}
 use Rattle.cie.specs.Scales.{frame_limit}
 use Rattle.cie.specs.Colour.{colour_of}
 use Rattle.conditions.specs.declared.Conditions.{Conditions}
-use Rattle.conditions.specs.declared.Prepared.{Prepared}
-use Rattle.conditions.specs.declared.measure.Measured.{Measured}
-use Rattle.conditions.specs.declared.measure.Measured.TheVariants.{Whole, Refused}
-use Rattle.conditions.specs.Conditions.{Prepares}
-use Rattle.conditions.specs.Measure.{measure_answer, measured_by}
-use Rattle.conditions.proofs.Answers.{prepared_because, prepared_clear}
-use Rattle.conditions.proofs.Measuring.{measured_refused, measured_whole}
+use Rattle.conditions.specs.Measure.{measured_by}
 use Rattle.tallies.specs.declared.TableTallies.{TableTallies}
 use Rattle.trials.specs.declared.Standing.{Standing}
 use Rattle.trials.specs.Outcome.{TrialOutcome}
-use Rattle.trials.specs.Tried.{tried_by, tallies_after, ValidStanding}
+use Rattle.trials.specs.declared.TrialAnswer.{TrialAnswer}
+use Rattle.trials.specs.Tried.{tried_answer, tried_by, tallies_after, ValidStanding}
 use Rattle.looks.specs.Look.{Look, Sight}
 use Rattle.looks.specs.Looked.{looked_by}
+use Rattle.session.specs.declared.Answer.{Answer}
+use Rattle.session.specs.declared.Answer.TheVariants.{Tried}
 use Rattle.session.specs.declared.Session.{Session}
 use Rattle.session.specs.Call.{set_standard, trial, look}
-use Rattle.session.specs.Outcome.{Outcome, refused}
-use Rattle.session.specs.Served.{Reply, served, refused_by, opened_by, standard_by, standing_of, with_tallies, found_outcome, seen_by, Valid}
+use Rattle.session.specs.Outcome.{Outcome}
+use Rattle.session.specs.Served.{outcome_of, Reply, served, refused_by, opened_by, standard_by, replied, standing_of, with_tallies, found_outcome, seen_by, Valid}
 
--- a call whose checks found a cause of this number is refused with it
-refused_as : (s : Session) (found : Checked) (a : Reply) {n : ℕ} → (d : Cause) × (found ≡ Because d) × (cause_number d ≡ n) →
-    unless found (refused_by s) a ≡ record { session = s; outcome = refused n }
-refused_as s found a w = refuses _ _ _ _ w.1 ∙ ap (λ (n : ℕ). record { session = s; outcome = refused n }) w.2
+-- an answer behind some checks is replied to as the checks are
+replied_numbered : {A : Type 0} (s : Session) (follow : A → Reply) (found : Checked) (a : A) →
+    replied s follow (numbered found a) ≡ unless found (refused_by s) (follow a)
+unfolding unless
+replied_numbered s follow (Ok tt) a = refl
+replied_numbered s follow (Err cause) a = refl
 
--- an opening, by what its preparation found
-module _ (s : Session) (found : Checked) (k : Conditions) {p : Prepared} (e : Prepares (numbered found k) p) where
-  pub opening_refused : {cause : Cause} → p.checked ≡ Because cause → unless found (refused_by s) (opened_by s k) ≡ refused_by s cause
-  opening_refused told = refused_as s found (opened_by s k) (prepared_because found k e told)
+-- an opening, by what its preparation answers
+pub opening : (s : Session) (found : Checked) (k : Conditions) {n : Numbered Conditions} → n ≡ numbered found k →
+    replied s (opened_by s) n ≡ unless found (refused_by s) (opened_by s k)
+opening s found k e = ap (replied s (opened_by s)) e ∙ replied_numbered s (opened_by s) found k
 
-  pub opening_clear : p.checked ≡ Clear → unless found (refused_by s) (opened_by s k) ≡ opened_by s p.conditions
-  opening_clear told =
-      let w = prepared_clear found k e told in
-      accepts _ _ _ w.0 ∙ ap (opened_by s) (sym w.1)
+-- a standard, by what measuring under the session's conditions answers
+module _ (s : Session) (readings : List ℕ) (opened : not s.opened ≡ false) where
+  abbrev from_sums : Sums → Reply
+  from_sums sums = standard_by s (colour_of s.conditions.white.sums sums)
 
-module _ (s : Session) (readings : List ℕ) where
-  -- the measuring answer under the session's conditions
-  abbrev answer : Numbered Sums
-  answer = measured_by frame_limit s.conditions.rows s.conditions.x s.conditions.y s.conditions.z readings
+  -- k are the conditions, as they are lent
+  module _ {k : Conditions} (lent : k ≡ s.conditions) (m : Result Sums Cause)
+      (e : answer_of m ≡ measured_by frame_limit k.rows k.x k.y k.z readings) where
+    measured : served s (set_standard readings) ≡ replied s from_sums (answer_of m)
+    unfolding measured_by
+    measured =
+        let answered : Conditions → Numbered Sums = λ q. measured_by frame_limit q.rows q.x q.y q.z readings in
+        passes _ _ _ _ _ opened ∙ sym (ap (replied s from_sums) (e ∙ ap answered lent) ∙ replied_numbered s from_sums _ _)
 
-  module _ (opened : not s.opened ≡ false) {m : Measured} (e : measure_answer m ≡ answer) where
-    pub standard_refused : {cause : Cause} → m ≡ Refused cause → served s (set_standard readings) ≡ refused_by s cause
-    standard_refused told = passes _ _ _ _ _ opened ∙ refused_as s _ _ (measured_refused frame_limit s.conditions.rows _ _ _ _ e told)
+    pub standard_refused : {cause : Cause} → m ≡ Err cause → served s (set_standard readings) ≡ refused_by s cause
+    standard_refused told = measured ∙ ap (λ (x : Result Sums Cause). replied s from_sums (answer_of x)) told
 
-    pub standard_whole : {sums : Sums} {colour : Colour} → m ≡ Whole sums → colour ≡ colour_of s.conditions.white.sums sums →
+    pub standard_whole : {sums : Sums} {colour : Colour} → m ≡ Ok sums → colour ≡ colour_of k.white.sums sums →
         served s (set_standard readings) ≡ standard_by s colour
-    standard_whole told k =
-        let w = measured_whole frame_limit s.conditions.rows _ _ _ _ e told in
-        passes _ _ _ _ _ opened
-        ∙ accepts _ _ _ w.0
-        ∙ ap (λ (x : Sums). standard_by s (colour_of s.conditions.white.sums x)) (sym w.1)
-        ∙ ap (standard_by s) (sym k)
+    standard_whole {sums} told j =
+        measured
+        ∙ ap (λ (x : Result Sums Cause). replied s from_sums (answer_of x)) told
+        ∙ ap (standard_by s) (sym (j ∙ ap (λ (q : Conditions). colour_of q.white.sums sums) lent))
+
+-- what a trial finds is its call's outcome, by what is made of a trial's answer
+pub trial_answered : (P : TrialAnswer → Answer → Type 0) (found : Result TrialAnswer Cause) (r : Result Answer Cause) →
+    MatchResult found (λ t. IsOkAnd r (P t)) (λ cause. r ≡ Err cause) → ((t : TrialAnswer) (a : Answer) → P t a → a ≡ Tried t) →
+    outcome_of r ≡ found_outcome (tried_answer found)
+trial_answered P (Ok t) (Ok a) h k = ap (λ (x : Answer). outcome_of (Ok x)) (k t a h)
+trial_answered P (Ok t) (Err cause) h k = absurd h
+trial_answered P (Err cause) r h k = ap outcome_of h
 
 -- what stands, as a trial and a look are told it
 module _ (s : Session) {q : Standing} (stands : q ≡ standing_of s) where

@@ -4,8 +4,8 @@ use mathlib.Core.Path.{◌≡◌, refl, ◌∙◌, ap}
 use mathlib.Core.List.{List}
 use Prim.Native.Nat.{ℕ}
 use Rattle.causes.specs.declared.Cause.{Cause}
-use Rattle.causes.specs.declared.Checked.{Checked}
-use Rattle.causes.specs.declared.Checked.TheVariants.{Clear, Because}
+use Rattle.causes.specs.Checks.{Checked}
+use Rattle.std.specs.Prelude.{Ok, Err}
 use Rattle.causes.specs.Causes.{Numbered, accepted, refused}
 use Rattle.causes.specs.Checks.{first_of, unless}
 use Rattle.cie.specs.declared.Verdict.{Verdict}
@@ -31,8 +31,8 @@ reply_of e = record { session = session_of e.ledger; outcome = e.outcome }
 both : (t : Checked) (f : Cause → Reply) (a : Reply) (g : Cause → Entry) (b : Entry) →
     ((c : Cause) → f c ≡ reply_of (g c)) → a ≡ reply_of b → unless t f a ≡ reply_of (unless t g b)
 unfolding unless
-both Clear f a g b h k = k
-both (Because c) f a g b h k = h c
+both (Ok tt) f a g b h k = k
+both (Err c) f a g b h k = h c
 
 abbrev Same : Ledger → Call → Type 0
 Same l c = served (session_of l) c ≡ reply_of (entered l c)

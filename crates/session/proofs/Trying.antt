@@ -3,7 +3,7 @@ use mathlib.Core.Path.{◌≡◌, ◌∙◌, ap}
 use mathlib.Core.Bool.{Bool, true}
 use mathlib.Core.List.{List}
 use Prim.Native.Nat.{ℕ}
-use Rattle.causes.specs.declared.Checked.{Checked}
+use Rattle.std.specs.Prelude.{Some}
 use Rattle.causes.specs.Causes.{Numbered, accepted, refusal}
 use Rattle.causes.specs.Checks.{first_of, unless}
 use Rattle.causes.proofs.Checks.{fires_both, behind}
@@ -13,7 +13,6 @@ use Rattle.cie.specs.declared.Verdict.{Verdict}
 use Rattle.cie.specs.Spacing.{rows_at}
 use Rattle.cie.specs.Sums.{Tables, white_of}
 use Rattle.cie.specs.Colour.{colour_of, colour_at}
-use Rattle.cie.specs.Verdict.{margin, verdict_of, difference}
 use Rattle.conditions.specs.Conditions.{conditions_of}
 use Rattle.conditions.specs.Measure.{colour_under}
 use Rattle.conditions.proofs.Dots.{sums_same}
@@ -21,7 +20,7 @@ use Rattle.tallies.specs.ByTable.{is_full}
 use Rattle.tallies.specs.Tallies.{tally_sum, set_of}
 use Rattle.tallies.proofs.ByTable.{at_map}
 use Rattle.rules.specs.Rules.{tolerance_of, has_standard, has_tolerance, judged_by, judged_of}
-use Rattle.rules.proofs.InSpace.{tolerant, judged_in}
+use Rattle.rules.proofs.InSpace.{judged_in}
 use Rattle.trials.specs.Outcome.{Amount, TrialOutcome}
 use Rattle.trials.specs.Checks.{trial_checks}
 use Rattle.trials.specs.Tried.{judged_as, tried_by}
@@ -38,12 +37,11 @@ ledger_of conditions standard tolerance counts = record { conditions = condition
 
 -- the program's judgement of an amount is the ledger's, in the amount's space
 judging : (space : Space) (units : ℕ) (p q : Colour) →
-    judged_as q (judged_by (tolerance_of space units) p q) ≡ accepted (judged_at (record { space = space; units = units }) p q)
+    judged_as q (Some (judged_by (tolerance_of space units) p q)) ≡ accepted (judged_at (record { space = space; units = units }) p q)
 judging space units p q =
     let j = judged_in space units p q in
-    let verdict : Verdict = verdict_of (margin space) (difference space p q) units in
-    let told : Space → ℕ → Numbered TrialOutcome = λ k n. accepted (record { colour = q; e = record { space = k; units = n }; verdict = verdict }) in
-    ap (judged_as q) j.judged ∙ (λ i. told (j.in_space i) (j.counted i))
+    let told : Space → ℕ → Verdict → Numbered TrialOutcome = λ k n v. accepted (record { colour = q; e = record { space = k; units = n }; verdict = v }) in
+    λ i. told (j.in_space i) (j.counted i) (j.judged i)
 
 -- the tallies of a table count what the ledger counts for it
 count_same : (l : Ledger) (table : ℕ) → tally_sum (set_of (session_of l).tallies.sets table) ≡ count_for l table
@@ -63,10 +61,8 @@ trying table full readings (held t) none o = behind _ _ _ _ _ _ _ (λ _. behind 
 trying table full readings (held t) (held s) none =
     behind _ _ _ _ _ _ _ (λ _. behind _ _ _ _ _ _ _ (λ _. behind _ _ _ _ _ _ _ (λ _. fires_both _ _ _ _ _ _)))
 trying table full readings (held t) (held s) (held a) =
-    let judge : Colour → Numbered TrialOutcome = λ q. judged_as q (judged_by (tolerance_of a.space a.units) (colour_at t s) q) in
-    let found : Bool → Checked = λ b. first_of (trial_checks table true true b full (rows_at t.spacing) readings) in
-    ap (λ (b : Bool). unless (found b) refusal (judge (colour_under (conditions_of t) readings))) (tolerant a.space a.units)
-    ∙ ap (λ (q : Numbered TrialOutcome). unless (found true) refusal q)
+    let judge : Colour → Numbered TrialOutcome = λ q. judged_as q (Some (judged_by (tolerance_of a.space a.units) (colour_at t s) q)) in
+    ap (λ (q : Numbered TrialOutcome). unless (first_of (trial_checks table true true true full (rows_at t.spacing) readings)) refusal q)
     (ap judge (colour_same t readings) ∙ judging a.space a.units (colour_at t s) (colour_at t readings))
 
 pub tried_same : (l : Ledger) (table : ℕ) (readings : List ℕ) →

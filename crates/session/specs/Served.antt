@@ -1,5 +1,5 @@
 -- What each call leaves and answers, as a function of the session and the call, refusals included. Assumes nothing.
-use Rattle.std.specs.Prelude.{true, false, map, ℕ}
+use Rattle.std.specs.Prelude.{true, false, map, ℕ, Some, None, Result, Ok, Err}
 use Rattle.causes.specs.declared.Cause.{Cause}
 use Rattle.causes.specs.Causes as causes
 use Rattle.causes.specs.Causes.{cause_number, Numbered}
@@ -12,10 +12,8 @@ use Rattle.conditions.specs.Conditions.{conditions_of, no_conditions}
 use Rattle.conditions.specs.Measure.{colour_under}
 use Rattle.tallies.specs.declared.Tallies.{Tallies}
 use Rattle.tallies.specs.declared.TableTallies.{TableTallies}
-use Rattle.tallies.specs.Tallies.{no_sets, each_of}
-use Rattle.rules.specs.declared.Tolerance.{Tolerance}
-use Rattle.rules.specs.declared.Tolerance.TheVariants.{Unset}
-use Rattle.rules.specs.declared.Standard.TheVariants.{Missing, Of}
+use Rattle.tallies.specs.Tallies.{no_sets}
+use Rattle.rules.specs.declared.Units.{Units}
 use Rattle.rules.specs.Standing.{tolerance_checks}
 use Rattle.rules.specs.Rules.{tolerance_of}
 use Rattle.trials.specs.declared.Standing.{Standing}
@@ -24,7 +22,7 @@ use Rattle.trials.specs.Tried.{trial_outcome, tried_by, tallies_after, ValidStan
 use Rattle.looks.specs.Look.{Sight}
 use Rattle.looks.specs.Looked.{seen_answer, looked_by}
 use Rattle.session.specs.declared.Answer.{Answer}
-use Rattle.session.specs.declared.Answer.TheVariants.{Accepted, Coloured, Tried, Counted, Seen, Refused}
+use Rattle.session.specs.declared.Answer.TheVariants.{Accepted, Coloured, Tried, Counted, Seen}
 use Rattle.session.specs.declared.Session.{Session}
 use Rattle.session.specs.declared.Served.{Served}
 use Rattle.session.specs.Call.{Call, open_tables, open_light, set_standard, set_tolerance, trial, report, look}
@@ -35,13 +33,13 @@ use Rattle.session.specs.CallChecks.{standard_checks}
 abbrev pub counts_of : Tallies → VerdictCounts
 counts_of t = record { passed = t.passed; failed = t.failed; line = t.line }
 
-abbrev pub outcome_of : Answer → Outcome
-outcome_of Accepted = accepted
-outcome_of (Coloured colour) = coloured colour
-outcome_of (Tried t) = tried (trial_outcome t)
-outcome_of (Counted r) = counted (record { sets = map counts_of (each_of r.tallies) })
-outcome_of (Seen answer) = seen (seen_answer answer)
-outcome_of (Refused cause) = refused (cause_number cause)
+abbrev pub outcome_of : Result Answer Cause → Outcome
+outcome_of (Ok Accepted) = accepted
+outcome_of (Ok (Coloured colour)) = coloured colour
+outcome_of (Ok (Tried t)) = tried (trial_outcome t)
+outcome_of (Ok (Counted r)) = counted (record { sets = map counts_of r.tallies })
+outcome_of (Ok (Seen answer)) = seen (seen_answer answer)
+outcome_of (Err cause) = refused (cause_number cause)
 
 -- the session that a call leaves, and its outcome
 pub record Reply : Type 0 where
@@ -53,7 +51,7 @@ shown r = record { session = r.session; outcome = outcome_of r.answer }
 
 -- "Fresh: nothing held, tallies 0."
 abbrev pub fresh_session : Session
-fresh_session = record { conditions = no_conditions; opened = false; standard = Missing; tolerance = Unset; tallies = record { sets = no_sets } }
+fresh_session = record { conditions = no_conditions; opened = false; standard = None; tolerance = None; tallies = record { sets = no_sets } }
 
 -- "A refusal returns its number only; session and buffers remain as before."
 abbrev pub refused_by : Session → Cause → Reply
@@ -63,7 +61,7 @@ refused_by s cause = record { session = s; outcome = refused (cause_number cause
 abbrev pub opened_by : Session → Conditions → Reply
 opened_by s c =
     record {
-      session = record { conditions = c; opened = true; standard = Missing; tolerance = s.tolerance; tallies = s.tallies };
+      session = record { conditions = c; opened = true; standard = None; tolerance = s.tolerance; tallies = s.tallies };
       outcome = accepted;
     }
 
@@ -71,16 +69,21 @@ opened_by s c =
 abbrev pub standard_by : Session → Colour → Reply
 standard_by s colour =
     record {
-      session = record { conditions = s.conditions; opened = s.opened; standard = Of colour; tolerance = s.tolerance; tallies = s.tallies };
+      session = record { conditions = s.conditions; opened = s.opened; standard = Some colour; tolerance = s.tolerance; tallies = s.tallies };
       outcome = coloured colour;
     }
 
-abbrev pub tolerance_by : Session → Tolerance → Reply
+abbrev pub tolerance_by : Session → Units → Reply
 tolerance_by s t =
     record {
-      session = record { conditions = s.conditions; opened = s.opened; standard = s.standard; tolerance = t; tallies = s.tallies };
+      session = record { conditions = s.conditions; opened = s.opened; standard = s.standard; tolerance = Some t; tallies = s.tallies };
       outcome = accepted;
     }
+
+-- the reply by an answer in the paper's numbers: what follows from its value, or the refusal
+abbrev pub replied : {A : Type 0} → Session → (A → Reply) → Numbered A → Reply
+replied s follow (causes.accepted a) = follow a
+replied s follow (causes.refused cause) = record { session = s; outcome = refused cause }
 
 -- what a session holds beside its conditions
 abbrev pub standing_of : Session → Standing

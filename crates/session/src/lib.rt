@@ -3,65 +3,56 @@
 #![tactic(auto)]
 
 ghost use Rattle.std.specs.Prelude.{◌≡◌};
+ghost use Rattle.causes.specs.Causes.{answer_of};
 ghost use Rattle.cie.specs.Sums.{tables_of};
-ghost use Rattle.trials.specs.Tried.{tried_answer};
 ghost use Rattle.session.specs.Call.{open_tables, open_light, set_standard, set_tolerance, trial, report};
-ghost use Rattle.session.specs.Served.{Valid, outcome_of, shown, fresh_session, refused_by, opened_by, standard_by, tolerance_by, standing_of, found_outcome};
+ghost use Rattle.session.specs.Served.{Valid, shown, fresh_session, refused_by, opened_by, replied, standing_of};
 ghost use Rattle.session.specs.Meets.{Meets};
 
-use causes::{Cause, Checked};
+use causes::Cause;
 use cie::spectrum::FRAME_LIMIT;
 use cie::{Colour, Space};
-use conditions::measure::Measured;
 use conditions::{Conditions, measure};
 use looks::Seen;
-use rules::{Standard, Tolerance};
-use tallies::{EightSets, TableTallies};
-use trials::{Standing, TrialAnswer, TrialResult};
+use rules::Units;
+use tallies::{TableTallies, Tallies};
+use trials::{Standing, TrialAnswer};
 
 mod look;
 
+// What holds of every session is the clause `Valid`, and no ghost field: it is the one invariant of the calls, which `Meets` says each of them
+// keeps and which the claims about lists of calls speak of. `opened` stands beside the conditions, which are no Option, as the checks and
+// definitions of a trial (`trial_checks`, `tried_by`) take the two apart.
 #[derive(Clone, Copy)]
 pub struct Session {
     conditions: Conditions,
     opened: bool,
-    standard: Standard,
-    tolerance: Tolerance,
+    standard: Option<Colour>,
+    tolerance: Option<Units>,
     tallies: TableTallies,
 }
 
-// What a report answers: the tallies of each table.
-#[derive(Clone, Copy)]
+// What a report answers: the tallies of each table, that of table 1 first.
+#[derive(Clone, Copy, Debug, PartialEq, Eq)]
 pub struct ReportAnswer {
-    pub tallies: EightSets,
+    pub tallies: [Tallies; 8],
 }
 
-// What a call answers.
-#[derive(Clone, Copy)]
+// What an accepted call answers. A look's refusal is what it shows.
+#[derive(Clone, Copy, Debug, PartialEq, Eq)]
 pub enum Answer {
     Accepted,
     Coloured(Colour),
     Tried(TrialAnswer),
     Counted(ReportAnswer),
-    Seen(Seen),
-    Refused(Cause),
+    Seen(Result<Seen, Cause>),
 }
 
-// The session that a call leaves, beside its answer.
+// The session that a call leaves, beside its answer or the cause against it.
 #[derive(Clone, Copy)]
 pub struct Served {
     pub session: Session,
-    pub answer: Answer,
-}
-
-// What a trial finds, as its call's answer.
-fn answer_of(found: TrialResult) -> Answer
-    ensures { outcome_of result ≡ found_outcome (tried_answer found) }
-{
-    match found {
-        TrialResult::Refused(cause) => Answer::Refused(cause),
-        TrialResult::Answered(trial) => Answer::Tried(trial),
-    }
+    pub answer: Result<Answer, Cause>,
 }
 
 impl Session {
@@ -69,12 +60,11 @@ impl Session {
     pub fn fresh() -> Session
         ensures { (result ≡ fresh_session) × Valid result }
     {
-        let none = conditions::none();
         Session {
-            conditions: none,
+            conditions: conditions::none(),
             opened: false,
-            standard: Standard::Missing,
-            tolerance: Tolerance::Unset,
+            standard: None,
+            tolerance: None,
             tallies: TableTallies::none(),
         }
     }
@@ -84,62 +74,25 @@ impl Session {
     {
         Served {
             session: self,
-            answer: Answer::Refused(cause),
+            answer: Err(cause),
         }
     }
 
-    // New conditions are in force, and the standard is dropped.
-    fn reopened(self, conditions: Conditions) -> Served
-        ensures { shown result ≡ opened_by self conditions }
+    // New conditions are in force, and the standard is dropped; or there is a cause against them.
+    fn opened(self, prepared: Result<Conditions, Cause>) -> Served
+        ensures { shown result ≡ replied self (opened_by self) (answer_of prepared) }
     {
-        let standard = Standard::Missing;
-        let tolerance = self.tolerance;
-        let tallies = self.tallies;
-        Served {
-            session: Session {
-                conditions: conditions,
-                opened: true,
-                standard: standard,
-                tolerance: tolerance,
-                tallies: tallies,
+        match prepared {
+            Err(cause) => self.refused(cause),
+            Ok(conditions) => Served {
+                session: Session {
+                    conditions,
+                    opened: true,
+                    standard: None,
+                    ..self
+                },
+                answer: Ok(Answer::Accepted),
             },
-            answer: Answer::Accepted,
-        }
-    }
-
-    fn with_standard(self, colour: Colour) -> Served
-        ensures { shown result ≡ standard_by self colour }
-    {
-        let conditions = self.conditions;
-        let tolerance = self.tolerance;
-        let tallies = self.tallies;
-        Served {
-            session: Session {
-                conditions: conditions,
-                opened: self.opened,
-                standard: Standard::Of(colour),
-                tolerance: tolerance,
-                tallies: tallies,
-            },
-            answer: Answer::Coloured(colour),
-        }
-    }
-
-    fn with_tolerance(self, tolerance: Tolerance) -> Served
-        ensures { shown result ≡ tolerance_by self tolerance }
-    {
-        let conditions = self.conditions;
-        let standard = self.standard;
-        let tallies = self.tallies;
-        Served {
-            session: Session {
-                conditions: conditions,
-                opened: self.opened,
-                standard: standard,
-                tolerance: tolerance,
-                tallies: tallies,
-            },
-            answer: Answer::Accepted,
         }
     }
 
@@ -155,13 +108,7 @@ impl Session {
         requires { Valid self }
         ensures { Meets self (open_tables (tables_of spacing illuminant.now x.now y.now z.now)) result }
     {
-        let prepared = conditions::prepare(spacing, illuminant, x, y, z);
-        let checked = prepared.checked;
-        let conditions = prepared.conditions;
-        match checked {
-            Checked::Because(cause) => self.refused(cause),
-            Checked::Clear => self.reopened(conditions),
-        }
+        self.opened(conditions::prepare(spacing, illuminant, x, y, z))
     }
 
     // Opens a built-in light at a spacing in nm, 5 or 10: 1 is A, 2 is D65.
@@ -169,13 +116,7 @@ impl Session {
         requires { Valid self }
         ensures { Meets self (open_light light spacing) result }
     {
-        let prepared = conditions::prepare_light(light, spacing);
-        let checked = prepared.checked;
-        let conditions = prepared.conditions;
-        match checked {
-            Checked::Because(cause) => self.refused(cause),
-            Checked::Clear => self.reopened(conditions),
-        }
+        self.opened(conditions::prepare_light(light, spacing))
     }
 
     // Sets the standard, and answers its colour.
@@ -186,20 +127,20 @@ impl Session {
         if !self.opened {
             return self.refused(Cause::NoConditions);
         }
-        let rows = self.conditions.rows;
-        let measured = measure::measure(
-            readings,
-            FRAME_LIMIT,
-            rows,
-            &self.conditions.x,
-            &self.conditions.y,
-            &self.conditions.z,
-        );
-        let Measured::Whole(sums) = measured else {
-            return self.refused(measure::cause_of(measured));
+        let lent = self.conditions.lend();
+        let measured = measure::measure(readings, FRAME_LIMIT, lent.rows, lent.weights);
+        // docs/DECISIONS.md fixes this form: `let .. else` on the measuring answer, and not `?`.
+        let Ok(sums) = measured else {
+            return self.refused(measured.unwrap_err());
         };
-        let white = self.conditions.white;
-        self.with_standard(colour::colour_of(sums, white))
+        let colour = colour::colour_of(sums, lent.white);
+        Served {
+            session: Session {
+                standard: Some(colour),
+                ..self
+            },
+            answer: Ok(Answer::Coloured(colour)),
+        }
     }
 
     // Sets the tolerance.
@@ -210,37 +151,40 @@ impl Session {
         if rules::off_scale(amount) {
             return self.refused(Cause::ToleranceOffScale);
         }
-        self.with_tolerance(rules::tolerance_of(space, amount))
+        Served {
+            session: Session {
+                tolerance: Some(rules::tolerance_of(space, amount)),
+                ..self
+            },
+            answer: Ok(Answer::Accepted),
+        }
     }
 
     // What the session holds beside its conditions.
     fn standing(self) -> Standing
         ensures { result ≡ standing_of self }
     {
-        let standard = self.standard;
-        let tolerance = self.tolerance;
-        let tallies = self.tallies;
         Standing {
             opened: self.opened,
-            standard: standard,
-            tolerance: tolerance,
-            tallies: tallies,
+            standard: self.standard,
+            tolerance: self.tolerance,
+            tallies: self.tallies,
         }
     }
 
     // Judges a spectrum against the standard: its colour, E and the verdict, which is tallied for the table.
+    #[inline(always)]
     pub fn trial(mut self, table: u32, readings: &[u16]) -> Served
         requires { Valid self }
         ensures { Meets self (trial table readings.now) result }
     {
+        // a copy is lent, and not a part of the session: the session then stays where it is, and is not copied three times
         let conditions = self.conditions;
-        let tried = trials::tried_under(conditions, self.standing(), table, readings);
-        let tallies = tried.tallies;
-        let found = tried.found;
-        self.tallies = tallies;
+        let tried = trials::tried_under(&conditions, self.standing(), table, readings);
+        self.tallies = tried.tallies;
         Served {
             session: self,
-            answer: answer_of(found),
+            answer: tried.found.map(Answer::Tried),
         }
     }
 
@@ -249,13 +193,10 @@ impl Session {
         requires { Valid self }
         ensures { Meets self report result }
     {
-        let tallies = self.tallies;
-        let report = ReportAnswer {
-            tallies: tallies.each(),
-        };
+        let tallies = self.tallies.each();
         Served {
             session: self,
-            answer: Answer::Counted(report),
+            answer: Ok(Answer::Counted(ReportAnswer { tallies })),
         }
     }
 }

@@ -11,10 +11,10 @@ use Rattle.cie.specs.Scales.{reader_limit}
 use Rattle.cie.specs.Sizes.{Sized}
 use Rattle.cie.specs.Colour.{lightness_at, colour_of}
 use Rattle.cie.proofs.Scales.{below_parts}
-use Rattle.cie.proofs.Whites.{white_y}
 use Rattle.conditions.specs.declared.Conditions.{Conditions}
+use Rattle.cie.proofs.Whites.{white_y}
 use Rattle.conditions.specs.Weights.{dot, white_readings, Spectrum, Weights}
-use Rattle.conditions.specs.Conditions.{conditions_by, Sound}
+use Rattle.conditions.specs.Conditions.{Sound}
 use Rattle.conditions.proofs.Measuring.{sized_under}
 use Rattle.book.specs.Book.{count_of, readings_of, is_book, spectrum_of}
 use Rattle.book.proofs.Rules.{rules}
@@ -27,6 +27,12 @@ spectrum_fair rows s i h b =
     let rs = readings_of rows s in
     let rest = (below_parts reader_limit (rows * i) rs (rules rows s b).fair).1 in
     record { few = omega (arith, length-take rows (drop (rows * i) rs)); scale = (below_parts reader_limit rows (drop (rows * i) rs) rest).0 }
+
+-- and so are those that are read into as many places
+pub read_fair : (s : List ℕ) (i : ℕ) {rows n : ℕ} {readings : List ℕ} → rows ≤ most_rows → n ≡ rows → is_book rows s ≡ true →
+    readings ≡ spectrum_of n (readings_of n s) i → Spectrum readings
+read_fair s i {rows} h e b r =
+    subst Spectrum (sym (r ∙ ap (λ (k : ℕ). spectrum_of k (readings_of k s) i) e)) (spectrum_fair rows s i h b)
 
 -- L of a shade's colour is that of its sum by the weights of y
 pub shade_lightness : (c : Conditions) (s : List ℕ) (i : ℕ) →
@@ -42,9 +48,6 @@ module _ {c : Conditions} (sound : Sound c) (s : List ℕ) (i : ℕ) (book : is_
   module _ (among : i < count_of s) {places : ℕ} (lent : places ≡ c.rows) where
     read : is_book places s ≡ true
     read = ap (λ (n : ℕ). is_book n s) lent ∙ book
-
-    pub colour_ready : Sound (conditions_by places c.x c.y c.z c.white) × (is_book places s ≡ true) × (i < count_of s)
-    colour_ready = (subst (λ (n : ℕ). Sound (conditions_by n c.x c.y c.z c.white)) (sym lent) sound, read, among)
 
     pub lightness_ready : (is_book places s ≡ true) × (i < count_of s) × (places ≤ most_rows) × Weights c.y × (dot white_readings c.y ≤ c.white.sums.y)
         × (0 < c.white.sums.y)

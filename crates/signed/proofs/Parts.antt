@@ -1,7 +1,7 @@
 -- A whole number with a sign is its part over zero less its part under zero, both in ℕ, where `omega` works. Assumes nothing.
 use mathlib.Core.Path.{◌≡◌, refl, sym, ap, ◌∙◌}
 use mathlib.Core.Bool.{Bool, true, false, cond}
-use Prim.Native.Nat.{ℕ, zero, suc, ◌+◌, ◌*◌, ◌-◌, ◌/◌, ◌≤◌}
+use Prim.Native.Nat.{ℕ, zero, suc, ◌+◌, ◌*◌, ◌-◌, ◌/◌}
 use native.Mathlib.Omega.{arith}
 use native.Mathlib.Nat.{mul-zero, mul-sub, zero-div}
 use lib.Dec.{ltb, ltb→lt, nltb→le}
@@ -119,32 +119,8 @@ share_under k a b d = rw (quot_under, scaled_under)
 
 -- ── the same, from whole numbers ──
 
-pub diff_same : (a b c d : ℕ) → a - b ≡ c - d → b - a ≡ d - c → pos a -ℤ pos b ≡ pos c -ℤ pos d
-diff_same a b c d e f =
-    parts_same (pos a -ℤ pos b) (pos c -ℤ pos d) (diff_over a b ∙ e ∙ sym (diff_over c d)) (diff_under a b ∙ f ∙ sym (diff_under c d))
-
-pub diff_pos : (a b : ℕ) → b ≤ a → pos (a - b) ≡ pos a -ℤ pos b
-unfolding over under
-diff_pos a b h = parts_same (pos (a - b)) (pos a -ℤ pos b) (sym (diff_over a b)) (omega (arith, diff_under a b))
-
 pub scaled_diff : (k a b : ℕ) → pos (k * a) -ℤ pos (k * b) ≡ pos k *ℤ (pos a -ℤ pos b)
 scaled_diff k a b =
     parts_same (pos (k * a) -ℤ pos (k * b)) (pos k *ℤ (pos a -ℤ pos b))
     (diff_over (k * a) (k * b) ∙ sym (mul-sub k a b) ∙ sym (scaled_over k a b))
     (diff_under (k * a) (k * b) ∙ sym (mul-sub k b a) ∙ sym (scaled_under k a b))
-
--- nothing is shared where nothing is left
-share_none : (k a b d : ℕ) → a ≤ b → k * (a - b) / d ≡ 0
-share_none k a b d h = let e : a - b ≡ 0 = omega arith in rw (e, mul-zero, zero-div)
-
--- a share by its size, at either side of zero
-pub share_above : (k a b d n : ℕ) → b ≤ a → n ≡ k * (a - b) / d → pos n ≡ quot_z (pos k *ℤ (pos a -ℤ pos b)) (pos d)
-unfolding over under
-share_above k a b d n h e =
-    parts_same (pos n) (quot_z (pos k *ℤ (pos a -ℤ pos b)) (pos d)) (e ∙ sym (share_over k a b d)) (sym (share_none k b a d h) ∙ sym (share_under k a b d))
-
-pub share_below : (k a b d n : ℕ) → a ≤ b → n ≡ k * (b - a) / d → pos 0 -ℤ pos n ≡ quot_z (pos k *ℤ (pos a -ℤ pos b)) (pos d)
-share_below k a b d n h e =
-    parts_same (pos 0 -ℤ pos n) (quot_z (pos k *ℤ (pos a -ℤ pos b)) (pos d))
-    (diff_over 0 n ∙ omega (arith, share_none k a b d h) ∙ sym (share_over k a b d))
-    (diff_under 0 n ∙ omega (arith, e) ∙ sym (share_under k a b d))

@@ -1,10 +1,7 @@
--- How far two numbers are apart. Assumes nothing.
-use Rattle.std.specs.Prelude.{ℕ, ◌+◌, ◌-◌, ℤ, nat_abs, ◌-ℤ◌}
-
--- the size of m − n
-abbrev pub distance : ℕ → ℕ → ℕ
-distance m n = (m - n) + (n - m)
+-- How far two numbers are apart: `distance m n` of natural numbers, `apart x y` of numbers with a sign. Assumes nothing.
+use Rattle.std.specs.Prelude.{ℕ, ℤ, unsigned_abs, ◌-ℤ◌}
+pub use Rattle.std.specs.Int.{abs_diff as distance}
 
 -- the size of x − y
 abbrev pub apart : ℤ → ℤ → ℕ
-apart x y = nat_abs (x -ℤ y)
+apart x y = unsigned_abs (x -ℤ y)

@@ -4,10 +4,10 @@ use mathlib.Core.Path.{◌≡◌, refl, sym, ap, ◌∙◌}
 use Prim.Native.Nat.{ℕ, suc, ◌+◌, ◌-◌, ◌≤◌, ◌<◌}
 use native.Mathlib.Nat.{add-zero, zero-add, suc-add}
 use native.Mathlib.Omega.{arith}
-use mathlib.Core.List.{List, [], ◌∷◌, ◌++◌, append-nil}
+use mathlib.Core.List.{List, [], ◌∷◌, ◌++◌, append-nil, append_assoc}
 use native.Mathlib.Numerals.{add-one}
 use lib.ListN.{length, get_or, take, drop, set, length-drop, take-append-drop, drop_of_length-le}
-use lib.Seq.{sets, sets-eq, drop-cons, take_all, length-take-le}
+use lib.Seq.{sets, sets-eq, drop-cons, drop-drop, take_all, length-take-le}
 
 -- a run goes on where the one before it left off
 pub sets_append : (d : List ℕ) (at : ℕ) (xs ys : List ℕ) → sets d at (xs ++ ys) ≡ sets (sets d at xs) (at + length xs) ys
@@ -64,3 +64,7 @@ run_more d words i h = rw (drop-cons words i 0 h, add-one)
 
 pub run_ended : (d words : List ℕ) (i : ℕ) → length words ≤ i → sets d i (drop i words) ≡ d
 run_ended d words i h = rw (drop_of_length-le words h)
+
+-- what is copied over a part of k places, `&mut d[at..at + k]`, is a run in d
+pub sets_mid : (d xs : List ℕ) (at k : ℕ) → at + length xs ≤ length d → k ≡ length xs → take at d ++ (xs ++ drop k (drop at d)) ≡ sets d at xs
+sets_mid d xs at k h e = rw (drop-drop k at d, e) (sym (sets-eq xs d at h ∙ append_assoc (take at d) xs (drop (at + length xs) d)))

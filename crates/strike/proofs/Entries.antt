@@ -22,21 +22,22 @@ words_kept d e at k step m f h =
     ∙ sym (words_past (take (at + k) d) r (at + k) step m (length-take-le (at + k) d h))
     ∙ ap (λ (l : List ℕ). words l (at + k) step m) (take-append-drop (at + k) d)
 
--- one turn, and the end; x is the number that the code has read, d' what the entry's stores left, b the body length that the code has
+-- one turn, and the end; x is the number that the code has read, d' what the entry's stores left, next and due the following entry's place and offset
 pub entries_turn : (rows : ℕ) (d : List ℕ) (at o m : ℕ) {n : ℕ} → n ≡ suc m → at + entry_length ≤ length d → {x : ℕ} → x ≡ at16 d at
-    → {d' : List ℕ} → d' ≡ sets d at (entry_of rows x o) → {b : ℕ} → b ≡ body_length rows
-    → sets d' (at + entry_length) (contents_of rows (o + b) (words d' (at + entry_length) entry_length m)) ≡ sets d at (contents_of rows o (words d at entry_length n))
+    → {d' : List ℕ} → d' ≡ sets d at (entry_of rows x o) → {next due : ℕ} → next ≡ at + entry_length → due ≡ o + body_length rows
+    → sets d' next (contents_of rows due (words d' next entry_length m)) ≡ sets d at (contents_of rows o (words d at entry_length n))
 unfolding contents_of
-entries_turn rows d at o m more h p {d'} s {b} q =
+entries_turn rows d at o m more h p {d'} s q r =
+    let b = body_length rows in
     let e : List ℕ = entry_of rows (at16 d at) o in
     let stored : d' ≡ sets d at e = s ∙ ap (λ (x : ℕ). sets d at (entry_of rows x o)) p in
     let ns : List ℕ = words d (at + entry_length) entry_length m in
     let size = length-entry_of rows (at16 d at) o in
-    ap (λ (l : List ℕ). sets l (at + entry_length) (contents_of rows (o + b) (words l (at + entry_length) entry_length m))) stored
-    ∙ ap (λ (x : ℕ). sets (sets d at e) (at + entry_length) (contents_of rows (o + x) (words (sets d at e) (at + entry_length) entry_length m))) q
+    rw (q, r)
+    (ap (λ (l : List ℕ). sets l (at + entry_length) (contents_of rows (o + b) (words l (at + entry_length) entry_length m))) stored
     ∙ ap (λ (l : List ℕ). sets (sets d at e) (at + entry_length) (contents_of rows (o + body_length rows) l)) (words_kept d e at entry_length entry_length m size h)
     ∙ sets_then d at entry_length e (contents_of rows (o + body_length rows) ns) size
-    ∙ ap (λ (l : List ℕ). sets d at (contents_of rows o l)) (sym (words_first d at entry_length m more))
+    ∙ ap (λ (l : List ℕ). sets d at (contents_of rows o l)) (sym (words_first d at entry_length m more)))
 
 pub entries_end : (rows : ℕ) (d : List ℕ) (at o n : ℕ) → n ≤ 0 → sets d at (contents_of rows o (words d at entry_length n)) ≡ d
 unfolding contents_of

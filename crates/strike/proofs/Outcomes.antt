@@ -6,7 +6,7 @@ use mathlib.Core.List.{List}
 use lib.ListN.{length}
 use Rattle.causes.specs.declared.Cause.{Cause}
 use Rattle.causes.specs.declared.Cause.TheVariants.{UnknownSpacing}
-use Rattle.causes.specs.declared.Checked.TheVariants.{Clear, Because}
+use Rattle.std.specs.Prelude.{Ok, Err}
 use Rattle.causes.specs.Causes.{accepted, refusal}
 use Rattle.causes.specs.Checks.{first_of, unless}
 use Rattle.causes.proofs.Checks.{first_fires, first_passes}
@@ -16,7 +16,7 @@ use Rattle.strike.specs.Striking.{strike_checks, book_without, struck, closed_up
 
 module _ (spacing number : ℕ) (s : List ℕ) where
   -- the checks; rows is what the code has of the spacing
-  pub unknown_spacing_lem : unknown_spacing spacing ≡ true → first_of (strike_checks spacing number s) ≡ Because UnknownSpacing
+  pub unknown_spacing_lem : unknown_spacing spacing ≡ true → first_of (strike_checks spacing number s) ≡ Err UnknownSpacing
   unfolding strike_checks
   unknown_spacing_lem h = first_fires _ _ _ h
 
@@ -26,12 +26,12 @@ module _ (spacing number : ℕ) (s : List ℕ) where
   known_spacing h at = first_passes _ _ _ h ∙ ap (λ (x : ℕ). first_of (shade_checks x s number)) (sym at)
 
   -- a strike that is refused, and one that is accepted
-  pub strike_refused : (c : Cause) → first_of (strike_checks spacing number s) ≡ Because c
+  pub strike_refused : (c : Cause) → first_of (strike_checks spacing number s) ≡ Err c
       → (refusal c ≡ struck spacing number s) × (s ≡ buffer_after_strike spacing number s)
   unfolding struck buffer_after_strike unless
   strike_refused c e = (rw e, rw e)
 
-  pub strike_accepted : first_of (strike_checks spacing number s) ≡ Clear → {rows : ℕ} → rows ≡ rows_at spacing
+  pub strike_accepted : first_of (strike_checks spacing number s) ≡ Ok tt → {rows : ℕ} → rows ≡ rows_at spacing
       → {n : ℕ} → n ≡ length (book_without rows number s) → {after : List ℕ} → after ≡ closed_up (book_without rows number s) (length s)
       → (accepted n ≡ struck spacing number s) × (after ≡ buffer_after_strike spacing number s)
   unfolding struck buffer_after_strike unless

@@ -10,7 +10,7 @@ use lib.Seq.{take_at, take-length}
 use borrow.Author.Tests.{not-false}
 use Rattle.causes.specs.declared.Cause.{Cause}
 use Rattle.causes.specs.declared.Cause.TheVariants.{NotABook, NoSuchShade, UnknownSpacing}
-use Rattle.causes.specs.declared.Checked.TheVariants.{Clear, Because}
+use Rattle.std.specs.Prelude.{Ok, Err}
 use Rattle.causes.specs.Causes.{accepted, refusal}
 use Rattle.causes.specs.Checks.{first_of, unless}
 use Rattle.causes.proofs.Checks.{clear_at, refuses, numbered_accepted}
@@ -31,11 +31,11 @@ use Rattle.strike.proofs.Outcomes.{unknown_spacing_lem, known_spacing, strike_re
 
 -- what a strike leaves as a book, by what its checks found
 module _ (spacing number : ℕ) (s : List ℕ) where
-  refused_leaves : (c : Cause) → first_of (strike_checks spacing number s) ≡ Because c → book_left spacing number s ≡ s
+  refused_leaves : (c : Cause) → first_of (strike_checks spacing number s) ≡ Err c → book_left spacing number s ≡ s
   unfolding book_left struck buffer_after_strike unless
   refused_leaves c e = rw e (take-length s)
 
-  accepted_leaves : first_of (strike_checks spacing number s) ≡ Clear → book_left spacing number s ≡ book_without (rows_at spacing) number s
+  accepted_leaves : first_of (strike_checks spacing number s) ≡ Ok tt → book_left spacing number s ≡ book_without (rows_at spacing) number s
   unfolding book_left struck buffer_after_strike unless
   accepted_leaves e = rw e (take_at (book_without (rows_at spacing) number s) _ (length (book_without (rows_at spacing) number s)) refl)
 
@@ -61,11 +61,11 @@ module _ (spacing : ℕ) (known : unknown_spacing spacing ≡ false) (ns rs : Li
   readings = readings_back (rows_at spacing) fits ns rs h
 
   -- the checks ask whether the number is among theirs
-  has_number : (number : ℕ) → is_in number ns ≡ true → first_of (shade_checks (rows_at spacing) (book_at spacing ns rs) number) ≡ Clear
+  has_number : (number : ℕ) → is_in number ns ≡ true → first_of (shade_checks (rows_at spacing) (book_at spacing ns rs) number) ≡ Ok tt
   unfolding first_of shade_checks
   has_number number e = rw (is, numbers, e)
 
-  no_number : (number : ℕ) → is_in number ns ≡ false → first_of (shade_checks (rows_at spacing) (book_at spacing ns rs) number) ≡ Because NoSuchShade
+  no_number : (number : ℕ) → is_in number ns ≡ false → first_of (shade_checks (rows_at spacing) (book_at spacing ns rs) number) ≡ Err NoSuchShade
   unfolding first_of shade_checks
   no_number number e = rw (is, numbers, e)
 
@@ -97,7 +97,7 @@ module _ (spacing : ℕ) (known : unknown_spacing spacing ≡ false) (ns rs : Li
       ∙ rw (remain_either 1 j k ns ns (omega arith), remain_either (rows_at spacing) j k ns rs h.long) (sym (leaves_both k j))
 
   -- a shade that is in the book is still in it when another is struck
-  second_clear : (j k : ℕ) → (k ≡ j → ⊥) → is_in k ns ≡ true → first_of (strike_checks spacing k (book_left spacing j (book_at spacing ns rs))) ≡ Clear
+  second_clear : (j k : ℕ) → (k ≡ j → ⊥) → is_in k ns ≡ true → first_of (strike_checks spacing k (book_left spacing j (book_at spacing ns rs))) ≡ Ok tt
   second_clear j k other e =
       ap (λ (s : List ℕ). first_of (strike_checks spacing k s)) (leaves spacing known ns rs h j)
       ∙ asked spacing known _ _ (shades_left j (rows_at spacing) ns rs h) k
@@ -135,7 +135,7 @@ module _ (spacing : ℕ) (known : unknown_spacing spacing ≡ false) (ns rs : Li
       rw (numbers spacing known ns rs h, numbers spacing known _ _ left, readings spacing known ns rs h, readings spacing known _ _ left)
       (same_spectrum other number d (rows_at spacing) ns rs h.long)
 
-  missing : first_of (shade_checks (rows_at spacing) (rest_at spacing number ns rs) number) ≡ Because NoSuchShade
+  missing : first_of (shade_checks (rows_at spacing) (rest_at spacing number ns rs) number) ≡ Err NoSuchShade
   missing = no_number spacing known _ _ left number (gone number ns)
 
   taken_out : length (book_at spacing ns rs) ≡ length (rest_at spacing number ns rs) + (entry_length + body_length (rows_at spacing))
@@ -152,14 +152,14 @@ module _ (spacing : ℕ) (known : unknown_spacing spacing ≡ false) (ns rs : Li
       }
 
 -- what an accepted strike went by
-module _ (spacing number : ℕ) (s : List ℕ) (e : first_of (strike_checks spacing number s) ≡ Clear) where
+module _ (spacing number : ℕ) (s : List ℕ) (e : first_of (strike_checks spacing number s) ≡ Ok tt) where
   went_by : (unknown_spacing spacing ≡ false) × (is_book (rows_at spacing) s ≡ true) × (is_in number (numbers_of s) ≡ true)
   unfolding strike_checks shade_checks
   went_by = (clear_at _ e 0, not-false _ (clear_at _ e 1), not-false _ (clear_at _ e 2))
 
 -- the claims
 module _ (spacing : ℕ) where
-  accepted_clear : (s : List ℕ) (number n : ℕ) → struck spacing number s ≡ accepted n → first_of (strike_checks spacing number s) ≡ Clear
+  accepted_clear : (s : List ℕ) (number n : ℕ) → struck spacing number s ≡ accepted n → first_of (strike_checks spacing number s) ≡ Ok tt
   unfolding struck
   accepted_clear s number n e = (numbered_accepted _ _ n e).0
 
@@ -167,7 +167,7 @@ module _ (spacing : ℕ) where
   wide = omega (arith, rows_few spacing)
 
   -- the length of what is left of a book, whichever of its shades is struck
-  left_long : (s : List ℕ) (number : ℕ) → AllBelow 256 s → first_of (strike_checks spacing number s) ≡ Clear
+  left_long : (s : List ℕ) (number : ℕ) → AllBelow 256 s → first_of (strike_checks spacing number s) ≡ Ok tt
       → length s ≡ length (book_left spacing number s) + (entry_length + body_length (rows_at spacing))
   left_long s number b e =
       let w = went_by spacing number s e in

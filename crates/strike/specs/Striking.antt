@@ -1,18 +1,11 @@
 -- Document 02, "Strike a shade": what a strike at a spacing answers and what it leaves, refusals included. Assumes nothing.
 use Rattle.std.specs.Prelude.{ℕ, ◌-◌, cond, List, [], ◌∷◌, ◌++◌, length, take, drop, replicate, eqb}
 use Rattle.causes.specs.declared.Cause.TheVariants.{UnknownSpacing}
-use Rattle.causes.specs.Causes.{Numbered, accepted, refusal}
+use Rattle.causes.specs.Causes.{Numbered}
 use Rattle.causes.specs.Checks.{Check, check, first_of, unless, numbered}
 use Rattle.cie.specs.Spacing.{unknown_spacing, rows_at}
 use Rattle.book.specs.Book.{book_of, numbers_of, readings_of}
 use Rattle.book.specs.Reading.{shade_checks}
-use Rattle.strike.specs.declared.Struck.{Struck}
-use Rattle.strike.specs.declared.Struck.TheVariants.{Left, Refused}
-
--- what a strike answers, in the paper's numbers
-abbrev pub strike_answer : Struck → Numbered ℕ
-strike_answer (Left n) = accepted n
-strike_answer (Refused cause) = refusal cause
 
 -- "Checks: 17, 11, 12."
 unfoldable pub strike_checks : ℕ → ℕ → List ℕ → List Check

@@ -16,15 +16,11 @@ fn put_entries(buffer: &mut [u8], rows: usize, n: usize)
     ensures { buffer.new ≡ sets buffer.old head_length (contents_of rows (bodies_at n) (words buffer.old head_length entry_length n)) }
 {
     let body = layout::body_length(rows);
-    let mut left = n;
-    let mut at: usize = HEAD;
-    let mut offset = HEAD + ENTRY * n;
-    while left > 0 {
+    let first = HEAD + ENTRY * n;
+    for i in 0..n {
+        let at = HEAD + ENTRY * i;
         let number = endian::read16(buffer, at);
-        book_writer::entry::put_entry(buffer, rows, at, number, offset as u32);
-        at += ENTRY;
-        offset += body;
-        left -= 1;
+        book_writer::entry::put_entry(buffer, rows, at, number, (first + body * i) as u32);
     }
 }
 

@@ -1,9 +1,8 @@
 -- The program's tallies: three for each table. The ledger has none of it. Assumes nothing.
-use Rattle.std.specs.Prelude.{◌≡◌, List, [], ◌∷◌, ℕ, ◌+◌, ◌≤◌, length, replicate}
+use Rattle.std.specs.Prelude.{◌≡◌, List, ℕ, ◌+◌, ◌≤◌, length, replicate}
 use Rattle.cie.specs.declared.Verdict.{Verdict}
 use Rattle.cie.specs.declared.Verdict.TheVariants.{Pass, Fail, OnTheLine}
 use Rattle.tallies.specs.declared.Tallies.{Tallies}
-use Rattle.tallies.specs.declared.EightSets.{EightSets}
 use Rattle.tallies.specs.ByTable.{table_count, table_limit, at_table, changed_at}
 
 abbrev pub no_tallies : Tallies
@@ -27,10 +26,6 @@ set_of sets table = at_table no_tallies sets table
 
 abbrev pub tallied_for : List Tallies → ℕ → Verdict → List Tallies
 tallied_for sets table verdict = changed_at (tallied_by verdict) sets table
-
--- the sets that have a name each
-abbrev pub each_of : EightSets → List Tallies
-each_of e = e.first ∷ e.second ∷ e.third ∷ e.fourth ∷ e.fifth ∷ e.sixth ∷ e.seventh ∷ e.eighth ∷ []
 
 -- what holds of tallies of 0, and after each trial
 pub record Within (sets : List Tallies) : Type 0 where

@@ -3,7 +3,7 @@
 
 ghost use Rattle.std.specs.Prelude.{◌≡◌, ◌≤◌};
 ghost use Rattle.tallies.specs.ByTable.{is_table, table_limit, is_full};
-ghost use Rattle.tallies.specs.Tallies.{no_sets, tally_sum, tallied_by, set_of, tallied_for, each_of, Within};
+ghost use Rattle.tallies.specs.Tallies.{no_sets, tally_sum, tallied_by, set_of, tallied_for, Within};
 
 use cie::Verdict;
 
@@ -14,7 +14,7 @@ const TABLES: u32 = 8;
 const TABLE_LIMIT: u32 = 100000;
 
 // How many trials were given each verdict.
-#[derive(Clone, Copy)]
+#[derive(Clone, Copy, Debug, PartialEq, Eq)]
 pub struct Tallies {
     pub passed: u32,
     pub failed: u32,
@@ -28,30 +28,18 @@ const NONE: Tallies = Tallies {
     line: 0,
 };
 
-// A set of tallies for each table, that of table 1 first.
-#[derive(Clone, Copy)]
+// A set of tallies for each table, that of table 1 first. `Within` is asked in clauses, and is no ghost field: definitions of specs/, as
+// `tallies_after` of trials, make this struct of any sets.
+#[derive(Clone, Copy, Debug, PartialEq, Eq)]
 pub struct TableTallies {
     sets: [Tallies; 8],
-}
-
-// The sets of tables 1 to 8, under a name each.
-#[derive(Clone, Copy)]
-pub struct EightSets {
-    pub first: Tallies,
-    pub second: Tallies,
-    pub third: Tallies,
-    pub fourth: Tallies,
-    pub fifth: Tallies,
-    pub sixth: Tallies,
-    pub seventh: Tallies,
-    pub eighth: Tallies,
 }
 
 // Whether a number is a table's.
 pub fn is_table(table: u32) -> bool
     ensures { result ≡ is_table table }
 {
-    1 <= table && table <= TABLES
+    (1..=TABLES).contains(&table)
 }
 
 // The tallies with the verdict's raised by 1.
@@ -62,18 +50,15 @@ fn raised(t: Tallies, verdict: Verdict) -> Tallies
     match verdict {
         Verdict::Pass => Tallies {
             passed: t.passed + 1,
-            failed: t.failed,
-            line: t.line,
+            ..t
         },
         Verdict::Fail => Tallies {
-            passed: t.passed,
             failed: t.failed + 1,
-            line: t.line,
+            ..t
         },
         Verdict::OnTheLine => Tallies {
-            passed: t.passed,
-            failed: t.failed,
             line: t.line + 1,
+            ..t
         },
     }
 }
@@ -94,8 +79,7 @@ impl TableTallies {
         if !is_table(table) {
             return NONE;
         }
-        let sets = self.sets;
-        sets[(table - 1) as usize]
+        self.sets[(table - 1) as usize]
     }
 
     // Whether a table takes no more trials.
@@ -117,26 +101,14 @@ impl TableTallies {
         }
         let mut sets = self.sets;
         let place = (table - 1) as usize;
-        let t = sets[place];
-        sets[place] = raised(t, verdict);
-        TableTallies { sets: sets }
+        sets[place] = raised(sets[place], verdict);
+        TableTallies { sets }
     }
 
-    // All sets, one by one.
-    pub fn each(self) -> EightSets
-        requires { Within self.sets }
-        ensures { each_of result ≡ self.sets }
+    // All sets, that of table 1 first.
+    pub fn each(self) -> [Tallies; 8]
+        ensures { result ≡ self.sets }
     {
-        let sets = self.sets;
-        EightSets {
-            first: sets[0],
-            second: sets[1],
-            third: sets[2],
-            fourth: sets[3],
-            fifth: sets[4],
-            sixth: sets[5],
-            seventh: sets[6],
-            eighth: sets[7],
-        }
+        self.sets
     }
 }

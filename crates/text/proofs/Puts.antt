@@ -1,10 +1,10 @@
 -- Text that is put piece by piece: each piece begins at the place where the one before it ended, so the pieces are one text. Assumes nothing.
 use mathlib.Core.Path.{◌≡◌, refl, sym, ap, ◌∙◌}
-use mathlib.Core.List.{List, [], ◌∷◌, ◌++◌, append_assoc}
+use mathlib.Core.List.{List, [], ◌++◌}
 use Prim.Native.Nat.{ℕ, ◌+◌, ◌-◌, ◌≤◌}
 use native.Mathlib.Omega.{arith}
-use lib.ListN.{length, take, drop, set, length-append, length-drop}
-use lib.Seq.{sets, sets-eq, take-length, length-take-le, drop-drop}
+use lib.ListN.{length, take, drop, length-append, length-drop}
+use lib.Seq.{sets, take-length, length-take-le}
 use Rattle.stores.proofs.Runs.{sets_append, sets_part, sets_front}
 use Rattle.text.specs.Text.{Put}
 
@@ -20,10 +20,6 @@ then {d} {at = at} {r = r} {xs = xs} {ys = ys} p s =
 pub same : {d e : List ℕ} {at r : ℕ} {xs ys : List ℕ} → xs ≡ ys → Put d at xs e r → Put d at ys e r
 same q p = rw q at p
 
--- one byte that is stored, and then a text
-pub stored : (d : List ℕ) (at x : ℕ) {e : List ℕ} {r : ℕ} {xs : List ℕ} → Put (set d at x) (at + 1) xs e r → Put d at (x ∷ xs) e r
-stored d at x p = then {xs = x ∷ []} (record { ends = refl; holds = refl }) p
-
 -- a text that is copied to the start of the lent part `&mut d[at..]`
 pub copied : (d text : List ℕ) (at k : ℕ) {part : List ℕ} → at + length text ≤ length d → length d - at ≡ k
     → part ≡ take (length text) text ++ drop (length text) (take k (drop at d))
@@ -31,13 +27,6 @@ pub copied : (d text : List ℕ) (at k : ℕ) {part : List ℕ} → at + length 
 copied d text at k h e p =
     let l : length text ≤ length (take k (drop at d)) = omega (arith, length-take-le k (drop at d) (omega (arith, length-drop at d)), length-drop at d) in
     rw (p, take-length text, ← sets_front (take k (drop at d)) text l) (sets_part d at k text (omega arith) e)
-
--- a text that is copied over the lent part `&mut d[at..at + length text]`, of k places
-pub copied_into : (d text : List ℕ) (at k : ℕ) {part : List ℕ} → at + length text ≤ length d → k ≡ length text → part ≡ text
-    → Put d at text (take at d ++ (part ++ drop k (drop at d))) (at + length text)
-copied_into d text at k h e p =
-    let rest : drop k (drop at d) ≡ drop (at + length text) d = drop-drop k at d ∙ ap (λ (i : ℕ). drop (at + i) d) e in
-    record { ends = refl; holds = rw (p, rest) (sym (sets-eq text d at h ∙ append_assoc (take at d) text (drop (at + length text) d))) }
 
 -- rest, put into e at a place, makes what whole makes in d from start on
 pub record Left (d : List ℕ) (start : ℕ) (whole e : List ℕ) (at : ℕ) (rest : List ℕ) : Type 0 where

@@ -4,7 +4,10 @@
 ghost use Rattle.std.specs.Prelude.{◌+◌, ◌≤◌, length};
 ghost use Rattle.text.specs.Text.{decimal, signed, Put};
 
+use itoa::Buffer;
+
 // The bytes as they are.
+#[tactic(auto, using(stores::proofs::Runs::sets_mid))]
 pub fn put(out: &mut [u8], at: usize, text: &[u8]) -> usize
     requires { at + length text.now ≤ length out.old }
     ensures { Put out.old at text.now out.new result }
@@ -15,24 +18,19 @@ pub fn put(out: &mut [u8], at: usize, text: &[u8]) -> usize
 }
 
 // A number in decimal.
+#[tactic(auto, using(crate::proofs::Decimal::decimal_is))]
 pub fn put_number(out: &mut [u8], at: usize, n: u32) -> usize
     requires { at + 10 ≤ length out.old }
     ensures { Put out.old at (decimal n) out.new result × (result ≤ at + 10) }
 {
-    let mut digits = [0u8; 20];
-    let count = io::decimal(n as u64, &mut digits);
-    put(out, at, &digits[..count])
+    put(out, at, Buffer::new().format(n).as_bytes())
 }
 
 // A signed number in decimal, with a minus sign where it is below 0.
+#[tactic(auto, using(crate::proofs::Decimal::signed_is))]
 pub fn put_signed(out: &mut [u8], at: usize, x: i32) -> usize
     requires { at + 11 ≤ length out.old }
     ensures { Put out.old at (signed x) out.new result × (result ≤ at + 11) }
 {
-    let size = signed::apart_of(x, 0);
-    if x < 0 {
-        out[at] = b'-';
-        return put_number(out, at + 1, size);
-    }
-    put_number(out, at, size)
+    put(out, at, Buffer::new().format(x).as_bytes())
 }

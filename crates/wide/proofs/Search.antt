@@ -1,70 +1,91 @@
 -- A search by halving ends at the last number that passes its test, and that is the root or the quotient rounded down. Assumes nothing.
-use Rattle.std.proofs.Common.{◌≡◌, ℕ, zero, suc, ◌+◌, ◌-◌, ◌*◌, ◌/◌, ◌^◌, ◌<◌, ◌≤◌, Bool, true, false, not, ◌&&◌, leb, sym, refl, ap, ◌∙◌, true≢false, pow-suc, add-one, arith, leb→le, pow_pos, le-leb}
+use Rattle.std.proofs.Common.{◌≡◌, ◌⊎◌, inl, inr, ℕ, zero, suc, ◌+◌, ◌-◌, ◌*◌, ◌/◌, ◌^◌, ◌<◌, ◌≤◌, Bool, true, false, not, ◌&&◌, leb, sym, refl, ap, ◌∙◌, lt_of_mul-lt-mul_right, div-mul-le_self, true≢false, pow-suc, mod-eq_of_lt, ◌%◌, add-one, arith, leb→le, pow_pos, le-leb}
+use Rattle.std.proofs.Math.Pow.{pow-lt}
 use native.Mathlib.Nat.{div-eq_of_lt-le}
 use native.Mathlib.Decide.{dec_le}
 use borrow.Author.Tests.{lt-leb}
 use lib.Dec.{nleb→lt}
-use Rattle.wide.specs.Roots.{Last, is_last, square_root, cube_root, quotient_below, square_below, cube_below}
+use Rattle.wide.specs.Roots.{Last, LastTold, is_last, square_root, cube_root, quotient_below, square_below, cube_below}
 use Rattle.wide.proofs.Greatest.{square_root_is, cube_root_is}
 
--- the test holds at lo and fails 2^turns above it, at top or below; half is half of 2^turns, and 0 where that is 1
-pub record Between (t : ℕ → Bool) (top lo half : ℕ) : Type 0 where
+-- lo passes, and the number 2^turns above it does not, or is `top`; half is half of 2^turns, and 0 where that is 1
+pub record Between (told : ℕ → Bool → Type 0) (top lo half : ℕ) : Type 0 where
   pub turns : ℕ
   pub halved : half ≡ 2 ^ turns / 2
   pub within : lo + 2 ^ turns ≤ top
-  pub holds : t lo ≡ true
-  pub fails : t (lo + 2 ^ turns) ≡ false
+  pub passes : (lo ≡ 0) ⊎ told lo true
+  pub stops : (lo + 2 ^ turns ≡ top) ⊎ told (lo + 2 ^ turns) false
 
--- with a turn left, half is a power of two, and the test fails twice half above lo
-record Turn (t : ℕ → Bool) (top lo half : ℕ) : Type 0 where
+-- what is left at first
+pub all_left : (told : ℕ → Bool → Type 0) (bits : ℕ) → 0 < bits → bits ≤ 32 → Between told (2 ^ bits) 0 (1 * 2 ^ (bits - 1) % 2 ^ 32)
+all_left told bits z h =
+    let e : 0 + 2 ^ bits ≡ 2 ^ bits = omega arith in
+    record { turns = bits; halved = go (bits - 1) (omega arith); within = omega arith; passes = inl refl; stops = inl e }
+  where
+    go : (n : ℕ) → bits ≡ suc n → 1 * 2 ^ n % 2 ^ 32 ≡ 2 ^ bits / 2
+    go n e = mod-eq_of_lt (omega (arith, pow-lt {i = n} {j = 32} (omega arith))) ∙ omega (arith, pow-suc 2 n, ap (λ (k : ℕ). 2 ^ k) e)
+
+-- with a turn left, half is a power of two, and the number twice half above lo is the one that does not pass
+record Turn (told : ℕ → Bool → Type 0) (top lo half : ℕ) : Type 0 where
   pub rest : ℕ
   pub power : half ≡ 2 ^ rest
   pub within : lo + half + half ≤ top
-  pub fails : t (lo + half + half) ≡ false
+  pub stops : (lo + half + half ≡ top) ⊎ told (lo + half + half) false
 
 -- what is between lo and lo + half, where half is a power of two
-half_left : {t : ℕ → Bool} {top lo half : ℕ} (n : ℕ) → half ≡ 2 ^ n → lo + half ≤ top → t lo ≡ true → t (lo + half) ≡ false → Between t top lo (half / 2)
-half_left n p w h f = record { turns = n; halved = ap (λ (x : ℕ). x / 2) p; within = rw p at w; holds = h; fails = rw p at f }
+half_left : {told : ℕ → Bool → Type 0} {top lo half : ℕ} (n : ℕ) → half ≡ 2 ^ n → lo + half ≤ top → (lo ≡ 0) ⊎ told lo true →
+    (lo + half ≡ top) ⊎ told (lo + half) false → Between told top lo (half / 2)
+half_left n p w h f = record { turns = n; halved = ap (λ (x : ℕ). x / 2) p; within = rw p at w; passes = h; stops = rw p at f }
 
-module _ {t : ℕ → Bool} {top lo half : ℕ} (b : Between t top lo half) where
-  pub lo_below : lo < top
-  lo_below = omega (arith, b.within, pow_pos b.turns)
-
+module _ {told : ℕ → Bool → Type 0} {top lo half : ℕ} (b : Between told top lo half) where
   -- where nothing is left between, lo is the last
-  pub between_last : half ≡ 0 → Last t lo
-  between_last none = go b.turns b.halved b.fails
+  pub between_last : half ≡ 0 → LastTold told top lo
+  between_last none = go b.turns b.halved b.within b.stops
     where
-      go : (n : ℕ) → half ≡ 2 ^ n / 2 → t (lo + 2 ^ n) ≡ false → Last t lo
-      go zero e f = record { passes = rw b.holds tt; stops = rw (rw (add-one lo) at f) tt }
-      go (suc n) e f = absurd (omega (arith, pow-suc 2 n, pow_pos n))
+      go : (n : ℕ) → half ≡ 2 ^ n / 2 → lo + 2 ^ n ≤ top → (lo + 2 ^ n ≡ top) ⊎ told (lo + 2 ^ n) false → LastTold told top lo
+      go zero e w f = record { below = omega (arith, w); passes = b.passes; stops = rw (add-one lo) at f }
+      go (suc n) e w f = absurd (omega (arith, pow-suc 2 n, pow_pos n))
 
   module _ (more : 0 < half) where
-    turn : Turn t top lo half
-    turn = go b.turns b.halved b.within b.fails
+    turn : Turn told top lo half
+    turn = go b.turns b.halved b.within b.stops
       where
-        go : (n : ℕ) → half ≡ 2 ^ n / 2 → lo + 2 ^ n ≤ top → t (lo + 2 ^ n) ≡ false → Turn t top lo half
+        go : (n : ℕ) → half ≡ 2 ^ n / 2 → lo + 2 ^ n ≤ top → (lo + 2 ^ n ≡ top) ⊎ told (lo + 2 ^ n) false → Turn told top lo half
         go zero e w f = absurd (omega arith)
         go (suc n) e w f =
             let p : half ≡ 2 ^ n = omega (arith, pow-suc 2 n) in
             let s : lo + 2 ^ suc n ≡ lo + half + half = omega (arith, pow-suc 2 n) in
-            record { rest = n; power = p; within = rw s at w; fails = rw s at f }
+            record { rest = n; power = p; within = rw s at w; stops = rw s at f }
 
     -- the number in the middle
     pub mid_below : lo + half < top
     mid_below = omega (arith, turn.within)
 
     -- where it passes the test, what is above it is left
-    pub upper_half : t (lo + half) ≡ true → Between t top (lo + half) (half / 2)
-    upper_half h = half_left turn.rest turn.power turn.within h turn.fails
+    pub upper_half : told (lo + half) true → Between told top (lo + half) (half / 2)
+    upper_half h = half_left turn.rest turn.power turn.within (inr h) turn.stops
 
     -- where it does not, what is below it is left
-    pub lower_half : t (lo + half) ≡ false → Between t top lo (half / 2)
-    lower_half h = half_left turn.rest turn.power (omega (arith, mid_below)) b.holds h
+    pub lower_half : told (lo + half) false → Between told top lo (half / 2)
+    lower_half h = half_left turn.rest turn.power (omega (arith, mid_below)) b.passes (inr h)
+
+-- the last number by what was told, where that is the test t
+pub last_told : {told : ℕ → Bool → Type 0} {top r : ℕ} (t : ℕ → Bool) → ((x : ℕ) (b : Bool) → told x b → b ≡ t x) →
+    t 0 ≡ true → t top ≡ false → LastTold told top r → Last t r
+last_told t is z none l =
+    record {
+      passes = elim l.passes [ inl e ↦ rw (e, z) tt | inr h ↦ rw (← is _ _ h) tt ];
+      stops = elim l.stops [ inl e ↦ rw (e, none) tt | inr h ↦ rw (← is _ _ h) tt ];
+    }
 
 -- ── the last number that passes is the quotient or the root ──
 
 pub last_quotient : (n d q : ℕ) → Last (quotient_below n d) q → q ≡ n / d
 last_quotient n d q l = sym (div-eq_of_lt-le d (leb→le (q * d) n l.passes) (omega (arith, nleb→lt (suc q * d) n l.stops)))
+
+-- it is as small as n is
+pub quotient_small : (n d : ℕ) {q : ℕ} → q ≡ n / d → n < 2 ^ 26 * d → q < 2 ^ 26
+quotient_small n d {q} e h = lt_of_mul-lt-mul_right d {m = q} {n = 2 ^ 26} (omega (arith, div-mul-le_self n d, ap (λ (x : ℕ). x * d) e))
 
 pub last_square : (n p : ℕ) → Last (square_below n) p → p ≡ square_root n
 last_square n p l = sym (square_root_is n p (leb→le (p * p) n l.passes) (nleb→lt (suc p * suc p) n l.stops))

@@ -1,10 +1,16 @@
 -- Roots rounded down: "down" is the largest whole number not above. Assumes nothing.
-use Rattle.std.specs.Prelude.{ℕ, zero, suc, ◌+◌, ◌*◌, ◌/◌, Bool, true, false, not, ◌&&◌, T, nat_le}
+use Rattle.std.specs.Prelude.{◌≡◌, ◌⊎◌, ◌<◌, ℕ, zero, suc, ◌+◌, ◌*◌, ◌/◌, Bool, true, false, not, ◌&&◌, T, nat_le}
 
 -- r passes the test t, and the next number does not
 pub record Last (t : ℕ → Bool) (r : ℕ) : Type 0 where
   pub passes : T (t r)
   pub stops : T (not (t (suc r)))
+
+-- r is such a number below `top`, where `told x b` says that a test told b of x; that 0 passes and `top` does not need not be told
+pub record LastTold (told : ℕ → Bool → Type 0) (top r : ℕ) : Type 0 where
+  pub below : r < top
+  pub passes : (r ≡ 0) ⊎ told r true
+  pub stops : (suc r ≡ top) ⊎ told (suc r) false
 
 -- whether r is such a number
 abbrev pub is_last : (ℕ → Bool) → ℕ → Bool

@@ -31,20 +31,17 @@ returns-then-not-is_book c =
     let p = read_refused a.spacing a.book.now a.number a.places.now NotABook first in
     record { result_value = p.0; places_after = p.1 }
 
-pub find-i-requires : goal.find-i-requires
-find-i-requires c = book_contents c.rows_at-rows.result c.args.book.now (sym c.if-not-is_book.ensures)
+pub find-requires : goal.find-requires
+find-requires c = book_contents c.rows_at-rows.result c.args.book.now (sym c.if-not-is_book.ensures)
 
-pub count-requires : goal.count-requires
-count-requires c = book_contents c.rows_at-rows.result c.args.book.now (sym c.if-not-is_book.ensures)
-
-pub returns-then-i-count : goal.returns-then-i-count
-returns-then-i-count c =
+pub returns-in_default : goal.returns-in_default
+returns-in_default c =
     let a = c.args in
     let known = sym c.if-is_unknown.ensures in
     let book = sym c.if-not-is_book.ensures in
     let first =
     right_places a.spacing a.book.now a.number (length a.places.now) known c.rows_at-rows.ensures.0 c.if-places-rows.false
-    ∙ no_shade_lem c.rows_at-rows.result a.book.now a.number book c.find-i.ensures c.count.ensures.0 c.if-i-count.true in
+    ∙ no_shade_lem c.rows_at-rows.result a.book.now a.number book c.in_default.ensures in
     let p = read_refused a.spacing a.book.now a.number a.places.now NoSuchShade first in
     record { result_value = p.0; places_after = p.1 }
 
@@ -56,7 +53,7 @@ returns c =
     let at = c.rows_at-rows.ensures.0 in
     let clear =
     right_places a.spacing a.book.now a.number (length a.places.now) known at c.if-places-rows.false
-    ∙ has_shade c.rows_at-rows.result a.book.now a.number book c.find-i.ensures c.count.ensures.0 c.if-i-count.false in
+    ∙ has_shade c.rows_at-rows.result a.book.now a.number book c.in-Some.ensures in
     let p =
-    read_accepted a.spacing a.book.now a.number a.places.now clear (c.if-places-rows.false ∙ at) c.find-i.ensures c.spectrum_at.ensures in
+    read_accepted a.spacing a.book.now a.number a.places.now clear (c.if-places-rows.false ∙ at) c.in-Some.ensures.0 c.spectrum_at.ensures in
     record { result_value = p.0; places_after = p.1 }

@@ -3,4 +3,4 @@ use Rattle.book.proofs.Rules.{book_contents}
 use Rattle.book_search.proofs.nearest_to.Goals as goal
 
 pub count-n-requires : goal.count-n-requires
-count-n-requires c = book_contents c.args.rows c.args.book.now c.requires.2
+count-n-requires c = book_contents c.args.lent.rows c.args.book.now c.requires.1

@@ -6,4 +6,4 @@ use Rattle.book_search.proofs.search.Goals as goal
 pub returns-then-not-opened-clause-result_value : goal.returns-then-not-opened-clause-result_value
 returns-then-not-opened-clause-result_value c =
     let a = c.args in
-    sym (search_unopened a.conditions a.budget a.swatch.now a.book.now a.opened (ap not c.if-not-opened.true))
+    sym (search_unopened a.conditions.now a.budget a.swatch.now a.book.now a.opened (ap not c.if-not-opened.true))

@@ -5,4 +5,4 @@ use Rattle.colour.proofs.colour_of.Goals as goal
 pub returns : goal.returns
 returns c =
     colour_is c.args.white.sums c.args.sums c.requires.1 c.requires.2 _ _ _ _ _
-    c.tristimulus_of.ensures c.chromaticity_of.ensures c.coordinates_of-c.ensures c.chroma_of.ensures c.chroma_of-2.ensures
+    c.tristimulus_of.ensures c.chromaticity_of.ensures c.coordinates_of-c.ensures c.chroma.ensures c.chroma-2.ensures

@@ -7,6 +7,6 @@ pub returns-then-light-eq-LIGHT_A : goal.returns-then-light-eq-LIGHT_A
 unfolding illuminant_a
 returns-then-light-eq-LIGHT_A c = rw (eq-eqb _ _ c.if-light-eq-LIGHT_A.true)
 
-pub returns : goal.returns
+pub returns-else-light-eq-LIGHT_A : goal.returns-else-light-eq-LIGHT_A
 unfolding illuminant_d65
-returns c = rw (ne_eqb _ _ c.if-light-eq-LIGHT_A.false)
+returns-else-light-eq-LIGHT_A c = rw (ne_eqb _ _ c.if-light-eq-LIGHT_A.false)

@@ -1,5 +1,4 @@
 -- What is kept: the sums so far and the rows that are left make the whole, by weights at the rows of the spacing. Assumes nothing.
-use Rattle.std.proofs.Common.{length, ◌-◌, ◌≤◌}
 use Rattle.conditions.specs.Weights.{Begun}
 use Rattle.lights.proofs.LightRows.{weights_at}
 use Rattle.lights.proofs.sums_by.Given as goal
@@ -7,7 +6,4 @@ use Rattle.lights.proofs.sums_by.Given as goal
 abbrev pub invariant-loop-i : goal.invariant-loop-i
 invariant-loop-i l =
     let at = weights_at l.fn.spacing l.illuminant in
-    (l.i ≤ length l.readings) × Begun l.readings (at l.x) (at l.y) (at l.z) l.sums l.i
-
-abbrev pub decreases-loop-i : goal.decreases-loop-i
-decreases-loop-i l = length l.readings - l.i
+    Begun l.readings (at l.x) (at l.y) (at l.z) l.sums l.i

@@ -6,17 +6,14 @@ use Rattle.lights.specs.Lights.{Whole, tables_at}
 use Rattle.lights.proofs.LightRows.{whole_in}
 use Rattle.lights.proofs.sums_in.Goals as goal
 
-pub sums_by-requires : goal.sums_by-requires
+pub invariant_of-tables : goal.invariant_of-tables
 unfolding observer_x observer_y observer_z
-sums_by-requires c = (
-  c.requires.0,
-  c.requires.1,
-  subst (λ (l : List ℕ). Whole l observer_x observer_y observer_z) (sym c.illuminant_of-illuminant.ensures) (whole_in c.args.light),
-)
+invariant_of-tables c =
+    record { whole = subst (λ (l : List ℕ). Whole l observer_x observer_y observer_z) (sym c.illuminant_of.ensures) (whole_in c.args.light) }
 
 pub returns : goal.returns
 unfolding observer_x observer_y observer_z
 returns c =
     let a = c.args in
     c.sums_by.ensures
-    ∙ ap (λ (l : List ℕ). sums_of (tables_at a.spacing l observer_x observer_y observer_z) a.readings.now) c.illuminant_of-illuminant.ensures
+    ∙ ap (λ (l : List ℕ). sums_of (tables_at a.spacing l observer_x observer_y observer_z) a.readings.now) c.illuminant_of.ensures

@@ -8,4 +8,4 @@ returns c =
     let word = c.put-word.ensures in
     let number = c.put_number-number.ensures in
     let end = c.put.ensures in
-    (then (then word (rw c.number.ensures at number.0)) end, omega (arith, word.ends, number.1, end.ends))
+    (then (then word (rw c.from.ensures at number.0)) end, omega (arith, word.ends, number.1, end.ends))

@@ -1,13 +1,8 @@
--- `pool::sum_at`: the place is as many rows short of the end as spots are left, and the sum so far and that of the spots left make the whole.
-use Rattle.std.proofs.Common.{◌≡◌, ◌+◌, ◌*◌}
+-- `pool::sum_at`: the sum so far and that of the spots from the i-th on make the whole.
+use Rattle.std.proofs.Common.{◌≡◌, ◌+◌}
 use Rattle.pool.specs.Spots.{spots_of, at_row, sum_of}
-use Rattle.pool.proofs.Spots.{every_from}
+use Rattle.pool.proofs.Spots.{sum_from}
 use Rattle.pool.proofs.sum_at.Given as goal
 
-abbrev pub invariant-loop-left : goal.invariant-loop-left
-invariant-loop-left l =
-    (l.at + l.rows * l.left ≡ l.row + l.rows * l.count)
-    × (l.sum + sum_of (every_from l.rows l.at l.left l.spots) ≡ sum_of (at_row (spots_of l.rows l.count l.spots) l.row))
-
-abbrev pub decreases-loop-left : goal.decreases-loop-left
-decreases-loop-left l = l.left
+abbrev pub invariant-loop-i : goal.invariant-loop-i
+invariant-loop-i l = l.sum + sum_from l.rows l.row l.count l.spots l.i ≡ sum_of (at_row (spots_of l.rows l.count l.spots) l.row)

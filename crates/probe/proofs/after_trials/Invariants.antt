@@ -1,11 +1,9 @@
 -- `probe::after_trials` meets its contract: at each turn the trials that are left, made from here, give the session after all of them.
-use Rattle.std.proofs.Common.{◌≡◌}
+use Rattle.std.proofs.Common.{◌≡◌, ◌-◌}
 use Rattle.session.specs.Served.{Valid}
 use Rattle.probe.specs.Probe.{after_trials}
 use Rattle.probe.proofs.after_trials.Given as goal
 
-abbrev pub invariant-loop-left : goal.invariant-loop-left
-invariant-loop-left l = (after_trials l.current l.readings l.left ≡ after_trials l.initial.current l.readings l.count) × Valid l.current
-
-abbrev pub decreases-loop-left : goal.decreases-loop-left
-decreases-loop-left l = l.left
+abbrev pub invariant-loop : goal.invariant-loop
+invariant-loop l =
+    (after_trials l.current l.readings (l.count - l.counter) ≡ after_trials l.initial.current l.readings l.count) × Valid l.current

@@ -9,4 +9,4 @@ returns c =
     let a = c.args in
     c.passed_in.ensures
     ∙ counted a.light a.standard.now a.trial.now a.amount a.count c.session_for-ready.ensures.0 c.after_trials-last.ensures.0
-    (ap (λ (x : Reply). x.outcome) c.report-report.ensures.reply)
+    (ap (λ (x : Reply). x.outcome) c.report.ensures.reply)

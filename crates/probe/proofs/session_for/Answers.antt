@@ -5,6 +5,6 @@ use Rattle.probe.proofs.session_for.Goals as goal
 pub returns : goal.returns
 returns c = (
   ready c.args.light c.args.standard.now c.args.amount c.fresh.ensures.0
-      (left c.open_light-opened.ensures) (left c.set_standard-held.ensures) (left c.set_tolerance-ready.ensures),
-  c.set_tolerance-ready.ensures.valid,
+      (left c.open_light.ensures) (left c.set_standard.ensures) (left c.set_tolerance.ensures),
+  c.set_tolerance.ensures.valid,
 )

@@ -1,27 +1,17 @@
--- `book::reader::entries_right` meets its contract: the entries that are left are right from here just where all are. Assumes nothing.
-use Rattle.std.proofs.Common.{◌-◌, ◌∙◌, refl, arith}
-use Rattle.book.proofs.Sizes.{body_less}
+-- `book::reader::entries_right` meets its contract: the entries from the i-th on are right just where all are. Assumes nothing.
+use Rattle.std.proofs.Common.{◌∙◌, refl, arith}
 use Rattle.book.proofs.Tests.{entries_on, entries_off, entries_end}
 use Rattle.book.proofs.reader.entries_right.Goals as goal
 
 pub returns-then-not-entry_right : goal.returns-then-not-entry_right
 returns-then-not-entry_right c =
-    let l = c.loop-left in
-    entries_off c.args.rows c.args.s.now l.at l.before l.offset (l.left - 1) (omega arith) c.if-not-entry_right.ensures refl
-    ∙ l.invariant.3
+    entries_off c.args.rows c.args.s.now c.args.n c.loop-i.i c.loop-i.before (omega arith) c.body_length-body.ensures c.if-not-entry_right.ensures refl
+    ∙ c.loop-i.invariant
 
-pub loop-left-preserved : goal.loop-left-preserved
-loop-left-preserved c =
-    let l = c.loop-left in
-    let body = c.body_length-body.ensures in (
-      omega arith,
-      omega arith,
-      body_less c.args.rows l.offset (l.left - 1) body (omega arith) l.invariant.2,
-      entries_on c.args.rows c.args.s.now l.at l.before l.offset (l.left - 1) (omega arith) c.if-not-entry_right.ensures refl
-          c.read16-before.ensures body ∙ l.invariant.3,
-    )
+pub loop-i-preserved : goal.loop-i-preserved
+loop-i-preserved c =
+    entries_on c.args.rows c.args.s.now c.args.n c.loop-i.i c.loop-i.before (omega arith) c.body_length-body.ensures c.if-not-entry_right.ensures refl
+    c.read16-before.ensures ∙ c.loop-i.invariant
 
 pub returns : goal.returns
-returns c =
-    let l = c.loop-left in
-    entries_end c.args.rows c.args.s.now l.at l.before l.offset l.left c.loop-left-test.false ∙ l.invariant.3
+returns c = entries_end c.args.rows c.args.s.now c.args.n c.loop-i.i c.loop-i.before (omega arith) ∙ c.loop-i.invariant

@@ -4,6 +4,6 @@ use Rattle.cie.specs.Sizes.{Sized}
 use Rattle.shades.proofs.Spectra.{shade_sized}
 use Rattle.book_search.proofs.comparing.compare.Goals as goal
 
-pub lab_difference-e-requires : goal.lab_difference-e-requires
-lab_difference-e-requires c =
-    (c.requires.1, subst Sized (sym c.colour_under-colour.ensures) (shade_sized c.requires.0 c.args.book.now c.args.i c.requires.2))
+pub lab_difference-requires : goal.lab_difference-requires
+lab_difference-requires c =
+    (c.requires.0, subst Sized (sym c.colour_under-colour.ensures) (shade_sized c.args.lent.sound c.args.book.now c.args.i c.requires.2))

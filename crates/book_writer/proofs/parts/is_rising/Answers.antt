@@ -5,13 +5,13 @@ use Rattle.book_writer.proofs.parts.is_rising.Goals as goal
 
 pub returns-then-number-before : goal.returns-then-number-before
 returns-then-number-before c =
-    let l = c.loop-i in
-    rising_off c.args.numbers.now l.i l.before c.loop-i-test.true (omega arith) ∙ l.invariant.1
+    let l = c.loop-number in
+    rising_off c.args.numbers.now l.number-index l.before (omega arith) c.if-number-before.true ∙ l.invariant
 
-pub loop-i-preserved : goal.loop-i-preserved
-loop-i-preserved c =
-    let l = c.loop-i in
-    (omega arith, rising_on c.args.numbers.now l.i l.before c.loop-i-test.true c.if-number-before.false ∙ l.invariant.1)
+pub loop-number-preserved : goal.loop-number-preserved
+loop-number-preserved c =
+    let l = c.loop-number in
+    rising_on c.args.numbers.now l.number-index l.before (omega arith) c.if-number-before.false ∙ l.invariant
 
 pub returns : goal.returns
-returns c = let l = c.loop-i in rising_end c.args.numbers.now l.i l.before c.loop-i-test.false ∙ l.invariant.1
+returns c = let l = c.loop-number in rising_end c.args.numbers.now l.number-index l.before (omega arith) ∙ l.invariant

@@ -14,7 +14,6 @@ loop-i-preserved c =
     let rows = every_second table in
     let n = second_length table in
     record {
-      within = omega arith;
       whole = simp length-set l.invariant.whole;
       stored =
           ap (λ (k : ℕ). sets (set l.rows l.i k) (l.i + 1) (drop (l.i + 1) rows)) (sym (second_at table l.i))

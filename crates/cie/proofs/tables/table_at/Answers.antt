@@ -9,6 +9,6 @@ pub returns-then-spacing-eq-COARSE_SPACING : goal.returns-then-spacing-eq-COARSE
 unfolding table_at
 returns-then-spacing-eq-COARSE_SPACING c = rw (eq-eqb _ _ c.if-spacing-eq-COARSE_SPACING.true) c.every_second.ensures
 
-pub returns : goal.returns
+pub returns-else-spacing-eq-COARSE_SPACING : goal.returns-else-spacing-eq-COARSE_SPACING
 unfolding table_at
-returns c = rw (ne_eqb _ _ c.if-spacing-eq-COARSE_SPACING.false) (sym (filled_whole _ c.requires))
+returns-else-spacing-eq-COARSE_SPACING c = rw (ne_eqb _ _ c.if-spacing-eq-COARSE_SPACING.false) (sym (filled_whole _ c.requires))

@@ -7,6 +7,6 @@ pub returns-then-is_dim : goal.returns-then-is_dim
 unfolding step_at
 returns-then-is_dim c = f_dim step_scale c.args.n c.args.d _ c.is_dim.ensures c.if-is_dim.true _ c.straight.ensures
 
-pub returns : goal.returns
+pub returns-else-is_dim : goal.returns-else-is_dim
 unfolding step_at
-returns c = f_bright step_scale c.args.n c.args.d _ c.is_dim.ensures c.if-is_dim.false _ c.cube_root_near.ensures
+returns-else-is_dim c = f_bright step_scale c.args.n c.args.d _ c.is_dim.ensures c.if-is_dim.false _ c.cube_root_near.ensures

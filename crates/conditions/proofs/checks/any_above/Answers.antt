@@ -1,25 +1,18 @@
--- The rows that are left decide as the whole table does. Assumes nothing.
-use Rattle.std.proofs.Common.{◌≡◌, sym, ◌∙◌, length, arith}
-use lib.Seq.{drop-length}
-use borrow.Author.Tests.{lt-ltb, le-ltb}
+-- Some entry is above the limit, as the definition goes through them. Assumes nothing.
+use Rattle.std.proofs.Common.{◌≡◌, ℕ, List, [], ◌∷◌, refl, ap, ◌∙◌, ltb, ◌||◌, Bool, rules}
+use borrow.Author.Tests.{tests}
+use Rattle.std.specs.List.{list_any}
+use Rattle.std.proofs.lemmas.Iterator.{YieldsList-from_slice}
+use Rattle.std.proofs.lemmas.Iterator.Search.{any_from_yields_List}
 use Rattle.cie.specs.Scales.{any_above}
-use Rattle.cie.proofs.Scales.{above_more}
 use Rattle.conditions.proofs.checks.any_above.Goals as goal
 
-pub returns-then-limit-table : goal.returns-then-limit-table
-returns-then-limit-table c =
-    let a = c.args in
-    sym (sym c.loop-i.invariant.1 ∙ above_more a.limit a.table.now c.loop-i.i (omega arith) ∙ rw (lt-ltb _ _ c.if-limit-table.true))
-
-pub loop-i-preserved : goal.loop-i-preserved
-loop-i-preserved c =
-    let a = c.args in (
-      omega arith,
-      sym (above_more a.limit a.table.now c.loop-i.i (omega arith) ∙ rw (le-ltb _ _ c.if-limit-table.false)) ∙ c.loop-i.invariant.1,
-    )
+any_listed : (limit : ℕ) (xs : List ℕ) → list_any (ltb limit) xs ≡ any_above limit xs
+unfolding any_above
+any_listed limit [] = refl
+any_listed limit (x ∷ xs) = ap (λ (b : Bool). ltb limit x || b) (any_listed limit xs)
 
 pub returns : goal.returns
-unfolding any_above
 returns c =
-    let e : c.loop-i.i ≡ length c.args.table.now = omega arith in
-    rw (e, drop-length) at c.loop-i.invariant.1
+    any_from_yields_List (ltb c.args.limit) _ _ _ c.any.ensures.ran (YieldsList-from_slice c.args.table.now (cc)) (λ x b q k. search (rules, tests))
+    ∙ any_listed c.args.limit c.args.table.now

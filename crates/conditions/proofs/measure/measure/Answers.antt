@@ -20,15 +20,11 @@ returns-then-over_bright c =
 
 pub sums_of-requires : goal.sums_of-requires
 sums_of-requires c =
-    let fair = sym c.over_bright.ensures ∙ c.if-over_bright.false in (
-      record {
-        few = omega (arith, c.requires.1);
-        scale = above_wider c.args.limit reader_limit c.args.readings.now c.requires.0 fair;
-      },
-      c.requires.2,
-      c.requires.3,
-      c.requires.4,
-    )
+    let fair = sym c.over_bright.ensures ∙ c.if-over_bright.false in
+    record {
+      few = omega (arith, c.requires.1);
+      scale = above_wider c.args.limit reader_limit c.args.readings.now c.requires.0 fair;
+    }
 
 pub returns : goal.returns
 unfolding measured_by

@@ -4,13 +4,13 @@ use Rattle.conditions.proofs.Dots.{summed_fits, summed_more, summed_all}
 use Rattle.conditions.proofs.weights.sum_of.Goals as goal
 
 pub overflow_mul-sum : goal.overflow_mul-sum
-overflow_mul-sum c = omega (arith, summed_fits c.requires.0 c.requires.1 c.loop-i.invariant.1 (omega arith))
+overflow_mul-sum c = omega (arith, summed_fits c.requires.0 c.requires.1 c.loop-i.invariant (omega arith))
 
 pub overflow_add-sum : goal.overflow_add-sum
-overflow_add-sum c = omega (arith, summed_fits c.requires.0 c.requires.1 c.loop-i.invariant.1 (omega arith))
+overflow_add-sum c = omega (arith, summed_fits c.requires.0 c.requires.1 c.loop-i.invariant (omega arith))
 
 pub loop-i-preserved : goal.loop-i-preserved
-loop-i-preserved c = (omega arith, summed_more c.requires.0 c.requires.1 c.loop-i.invariant.1 (omega arith))
+loop-i-preserved c = summed_more c.requires.0 c.requires.1 c.loop-i.invariant (omega arith)
 
 pub returns : goal.returns
-returns c = summed_all c.requires.0 c.requires.1 c.loop-i.invariant.1 (omega arith)
+returns c = summed_all c.requires.0 c.requires.1 c.loop-i.invariant (omega arith)

@@ -1,10 +1,6 @@
 -- What is kept: the sum so far and the rows that are left make the whole. Assumes nothing.
-use Rattle.std.proofs.Common.{length, ◌-◌, ◌≤◌}
 use Rattle.conditions.specs.Weights.{Summed}
 use Rattle.conditions.proofs.weights.sum_of.Given as goal
 
 abbrev pub invariant-loop-i : goal.invariant-loop-i
-invariant-loop-i l = (l.i ≤ length l.readings) × Summed l.readings l.ws l.sum l.i
-
-abbrev pub decreases-loop-i : goal.decreases-loop-i
-decreases-loop-i l = length l.readings - l.i
+invariant-loop-i l = Summed l.readings l.ws l.sum l.i

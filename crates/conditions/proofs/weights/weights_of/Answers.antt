@@ -16,11 +16,10 @@ loop-i-preserved c =
     let products = products_of x y in
     let n = products_length x y c.requires.1 in
     let at = products_at x y l.i (omega arith) (omega (arith, c.requires.1)) in (
-      omega arith,
-      simp length-set l.invariant.1,
+      simp length-set l.invariant.0,
       ap (λ (k : ℕ). sets (set l.weights l.i k) (l.i + 1) (drop (l.i + 1) products)) (sym at)
           ∙ run_more l.weights products l.i (omega arith)
-          ∙ l.invariant.2,
+          ∙ l.invariant.1,
     )
 
 pub returns : goal.returns
@@ -30,4 +29,4 @@ returns c =
     let x = c.args.illuminant.now in
     let y = c.args.column.now in
     let n = products_length x y c.requires.1 in
-    sym (run_ended l.weights (products_of x y) l.i (omega arith)) ∙ l.invariant.2 ∙ filled_stored (products_of x y) (omega (arith, n, c.requires.0))
+    sym (run_ended l.weights (products_of x y) l.i (omega arith)) ∙ l.invariant.1 ∙ filled_stored (products_of x y) (omega (arith, n, c.requires.0))

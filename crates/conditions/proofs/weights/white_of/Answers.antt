@@ -6,4 +6,4 @@ use Rattle.conditions.proofs.weights.white_of.Goals as goal
 
 pub sums_of-requires : goal.sums_of-requires
 unfolding any_above
-sums_of-requires c = (record { few = lit≤ tt; scale = refl }, c.requires.0, c.requires.1, c.requires.2)
+sums_of-requires c = record { few = lit≤ tt; scale = refl }

@@ -4,7 +4,7 @@ use Rattle.conditions.proofs.Dots.{begun_fits, begun_more}
 use Rattle.conditions.proofs.weights.with_rows.Goals as goal
 
 pub with_row-sums-requires : goal.with_row-sums-requires
-with_row-sums-requires c = begun_fits c.loop-i.invariant.1 (omega (arith, c.requires.1))
+with_row-sums-requires c = begun_fits c.loop-row.invariant (omega (arith, c.requires.1))
 
-pub loop-i-preserved : goal.loop-i-preserved
-loop-i-preserved c = (omega arith, begun_more c.loop-i.invariant.1 (omega (arith, c.requires.1)) c.with_row-sums.ensures (omega arith))
+pub loop-row-preserved : goal.loop-row-preserved
+loop-row-preserved c = begun_more c.loop-row.invariant (omega (arith, c.requires.1)) c.with_row-sums.ensures (omega arith)

@@ -5,8 +5,8 @@ use Rattle.signed.proofs.Signs.{negated_fits}
 use Rattle.hue.proofs.Sizes.{root_small, negative_is, positive_is}
 use Rattle.hue.proofs.plane.hue_difference.Goals as goal
 
-pub overflow_cast-result : goal.overflow_cast-result
-overflow_cast-result c =
+pub overflow_cast-size : goal.overflow_cast-size
+overflow_cast-size c =
     record { sfits = root_small c.requires.0 c.requires.1 (c.square_root-size.ensures ∙ ap square_root c.hue_square.ensures) }
 
 pub overflow_sub-result : goal.overflow_sub-result
@@ -18,11 +18,7 @@ returns-then-is_negative c =
     negative_is c.requires.0 c.requires.1 (c.square_root-size.ensures ∙ ap square_root c.hue_square.ensures)
     c.is_negative.ensures c.if-is_negative.true
 
-pub overflow_cast-result-2 : goal.overflow_cast-result-2
-overflow_cast-result-2 c =
-    record { sfits = root_small c.requires.0 c.requires.1 (c.square_root-size.ensures ∙ ap square_root c.hue_square.ensures) }
-
-pub returns : goal.returns
-returns c =
+pub returns-else-is_negative : goal.returns-else-is_negative
+returns-else-is_negative c =
     positive_is c.requires.0 c.requires.1 (c.square_root-size.ensures ∙ ap square_root c.hue_square.ensures)
     c.is_negative.ensures c.if-is_negative.false

@@ -1,10 +1,7 @@
--- Of the keys scanned, `least` is the least from `from` on, so at the end `found` is its place.
-use Rattle.std.proofs.Common.{length, ◌-◌}
-use Rattle.nearest.proofs.Scan.{Scan}
+-- Of the keys scanned, the best is the least from `from` on, if one is so high.
+use Rattle.std.proofs.Common.{◌<◌, ℕ, get_or, MatchOption}
+use Rattle.nearest.proofs.Scan.{Best}
 use Rattle.nearest.proofs.order.next.Given as goal
 
 abbrev pub invariant-loop-i : goal.invariant-loop-i
-invariant-loop-i l = Scan l.keys l.from l.found l.least l.i
-
-abbrev pub decreases-loop-i : goal.decreases-loop-i
-decreases-loop-i l = length l.keys - l.i
+invariant-loop-i l = MatchOption l.best ((j : ℕ) → j < l.i → get_or l.keys j 0 < l.from) (Best l.keys l.from l.i)

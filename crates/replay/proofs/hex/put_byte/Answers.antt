@@ -13,11 +13,11 @@ two n k h f =
     ]
 
 pub put-requires : goal.put-requires
-put-requires c =
+put-requires g c =
     let h = c.hex-count.ensures in
     omega (arith, h.in_bounds, two c.args.byte c.hex-count.result (search rules) h.len, c.requires)
 
 pub returns : goal.returns
-returns c =
+returns g c =
     let h = c.hex-count.ensures in
-    omega (arith, c.put.ensures.ends, h.in_bounds, two c.args.byte c.hex-count.result (search rules) h.len)
+    omega (arith, c.put.ensures, h.in_bounds, two c.args.byte c.hex-count.result (search rules) h.len)

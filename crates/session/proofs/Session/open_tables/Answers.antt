@@ -1,23 +1,15 @@
 -- The prepared answer says what the checks found: the session is refused with their cause, or opened with the conditions.
-use Rattle.std.proofs.Common.{sym, ◌∙◌}
+use Rattle.std.proofs.Common.{◌∙◌}
 use Rattle.causes.specs.Checks.{first_of}
 use Rattle.cie.specs.Sums.{tables_of}
 use Rattle.conditions.specs.Checks.{table_checks}
 use Rattle.conditions.specs.Conditions.{conditions_of}
 use Rattle.session.proofs.Valid.{meets}
-use Rattle.session.proofs.Replies.{opening_refused, opening_clear}
+use Rattle.session.proofs.Replies.{opening}
 use Rattle.session.proofs.Session.open_tables.Goals as goal
 
-pub returns-in-Because : goal.returns-in-Because
-returns-in-Because c =
+pub returns : goal.returns
+returns c =
     let a = c.args in
     let t = tables_of a.spacing a.illuminant.now a.x.now a.y.now a.z.now in
-    let told = opening_refused a.self (first_of (table_checks t)) (conditions_of t) c.prepare-prepared.ensures c.in-Because.is in
-    meets _ _ _ c.requires (c.refused.ensures ∙ sym told)
-
-pub returns-in-Clear : goal.returns-in-Clear
-returns-in-Clear c =
-    let a = c.args in
-    let t = tables_of a.spacing a.illuminant.now a.x.now a.y.now a.z.now in
-    let told = opening_clear a.self (first_of (table_checks t)) (conditions_of t) c.prepare-prepared.ensures c.in-Clear.is in
-    meets _ _ _ c.requires (c.reopened.ensures ∙ sym told)
+    meets _ _ _ c.requires (c.opened.ensures ∙ opening a.self (first_of (table_checks t)) (conditions_of t) c.prepare.ensures.answer)

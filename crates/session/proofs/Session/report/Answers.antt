@@ -9,4 +9,4 @@ use Rattle.session.proofs.Session.report.Goals as goal
 pub returns : goal.returns
 returns c =
     meets _ _ _ c.requires
-    (ap (λ (sets : List Tallies). record { session = c.args.self; outcome = counted (record { sets = map counts_of sets }) }) c.each.ensures)
+    (ap (λ (sets : List Tallies). record { session = c.args.self; outcome = counted (record { sets = map counts_of sets }) }) c.each-tallies.ensures)

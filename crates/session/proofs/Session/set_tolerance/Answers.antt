@@ -13,4 +13,4 @@ pub returns : goal.returns
 returns c =
     let on = sym c.off_scale.ensures ∙ c.if-off_scale.false in
     meets _ _ _ c.requires
-    (c.with_tolerance.ensures ∙ ap (tolerance_by c.args.self) c.tolerance_of.ensures ∙ sym (passes _ _ _ _ _ on ∙ ends _ _))
+    (ap (tolerance_by c.args.self) c.tolerance_of.ensures ∙ sym (passes _ _ _ _ _ on ∙ ends _ _))

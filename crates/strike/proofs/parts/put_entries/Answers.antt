@@ -1,23 +1,22 @@
--- `strike::parts::put_entries` meets its contract: the entries that are left, stored from here, are those of all. Assumes nothing.
-use Rattle.std.proofs.Common.{◌-◌, ◌∙◌, sym, arith}
-use Rattle.book.proofs.Sizes.{body_less}
+-- `strike::parts::put_entries` meets its contract: the entries from the i-th on, stored from here, are those of all. Assumes nothing.
+use Rattle.std.proofs.Common.{◌+◌, ◌-◌, ◌*◌, ◌∙◌, sym, arith}
+use Rattle.book.specs.Book.{head_length, entry_length, bodies_at}
 use Rattle.strike.proofs.Entries.{entries_turn, entries_end}
 use Rattle.strike.proofs.parts.put_entries.Goals as goal
 
-pub loop-left-preserved : goal.loop-left-preserved
-loop-left-preserved c =
-    let l = c.loop-left in
-    let rows = c.args.rows in
-    let body = c.body_length-body.ensures in (
+pub loop-i-preserved : goal.loop-i-preserved
+loop-i-preserved c =
+    let l = c.loop-i in
+    let n = c.args.n in
+    let b = c.body_length-body.result in (
       omega arith,
-      omega arith,
-      body_less rows l.offset (l.left - 1) body (omega arith) l.invariant.2,
-      omega arith,
-      entries_turn rows l.buffer l.at l.offset (l.left - 1) (omega arith) (omega arith) c.read16-number.ensures
-          c.put_entry.ensures body ∙ l.invariant.4,
+      entries_turn c.args.rows l.buffer (head_length + entry_length * l.i) (bodies_at n + b * l.i) (n - (l.i + 1)) (omega arith) (omega arith)
+          c.read16-number.ensures c.put_entry.ensures (omega arith) (omega (arith, c.body_length-body.ensures)) ∙ l.invariant.1,
     )
 
 pub returns : goal.returns
 returns c =
-    let l = c.loop-left in
-    sym (entries_end c.args.rows l.buffer l.at l.offset l.left c.loop-left-test.false) ∙ l.invariant.4
+    let l = c.loop-i in
+    let n = c.args.n in
+    let b = c.body_length-body.result in
+    sym (entries_end c.args.rows l.buffer (head_length + entry_length * l.i) (bodies_at n + b * l.i) (n - l.i) (omega arith)) ∙ l.invariant.1
