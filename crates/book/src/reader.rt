@@ -80,7 +80,7 @@ pub fn is_book(s: &[u8], rows: usize) -> bool
     entries_right(s, rows, n) && !any_over_bright(s, rows, n)
 }
 
-// The body length that the first entry names; 0 where the bytes end before that entry does.
+// The body length that the first entry names; 0 where the bytes end before that entry does, as the definition has it.
 pub fn first_body_length(s: &[u8]) -> u16
     ensures { result ≡ first_body_length s.now }
 {

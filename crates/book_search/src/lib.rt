@@ -87,6 +87,7 @@ fn searched_by(
     ensures within_budget { WithinBudget budget (search_answer result) }
 {
     let measured = measure::measure(swatch, FRAME_LIMIT, lent.rows, lent.weights);
+    // docs/DECISIONS.md fixes this form: `let .. else` on the measuring answer, and not `?`.
     let Ok(sums) = measured else {
         return Err(measured.unwrap_err());
     };

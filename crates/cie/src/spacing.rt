@@ -17,7 +17,7 @@ pub const READING_BYTES: usize = 2;
 
 const COARSE_BYTES: usize = READING_BYTES * COARSE_ROWS;
 
-// Whether a spacing is neither.
+// Whether a spacing is neither. Numbers of spacings and of lights come from outside, and each call that names one asks this first.
 pub fn is_unknown(spacing: u32) -> bool
     ensures { result ≡ unknown_spacing spacing }
 {

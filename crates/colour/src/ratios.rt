@@ -40,6 +40,7 @@ fn xy_under(s: Sums) -> Wide
     wide::sum(xy, Wide::from(s.z))
 }
 
+// Not `n == Wide::from(0)`: the edit black_not_tested is about this call.
 pub fn is_zero(n: Wide) -> bool
     ensures { result ≡ eqb (value n) 0 }
 {

@@ -20,7 +20,7 @@ pub mod measure;
 mod weights;
 
 // The rows of a spectrum at the spacing in force, illuminant × each observer column with zeros past the last row, and the white.
-#[derive(Clone, Copy)]
+#[derive(Clone, Copy, Debug, PartialEq, Eq)]
 pub struct Conditions {
     pub rows: usize,
     pub x: [u64; MOST_ROWS],

@@ -15,6 +15,7 @@ pub fn weights_of(illuminant: &[u32], column: &[u32]) -> [u64; MOST_ROWS]
     ensures { result ≡ weights_of illuminant.now column.now }
 {
     let mut weights = [0; MOST_ROWS];
+    // by index: what is stored through an adapter of `iter_mut` is not known
     for (i, &entry) in illuminant.iter().enumerate() {
         weights[i] = entry as u64 * column[i] as u64;
     }

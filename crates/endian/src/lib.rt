@@ -5,7 +5,8 @@ ghost use Rattle.std.specs.Prelude.{◌≡◌, ◌+◌, ◌*◌, ◌≤◌, leng
 ghost use Rattle.std.proofs.lemmas.List.Edits.{sets};
 ghost use Rattle.endian.specs.Bytes.{le16, le32, at16, at32, words as wordsAt, bytes_of, twos};
 
-// The number that the 2 bytes at a place are.
+// The number that the 2 bytes at a place are. Numbers of 2 and of 4 bytes have a function each, over the library's bytes of a number: a generic one
+// would need a trait of these two types with the same two lines in each.
 #[tactic(auto, using(crate::proofs::Parts::at16_is))]
 pub fn read16(s: &[u8], at: usize) -> u16
     requires { at + 2 ≤ length s.now }
@@ -62,6 +63,7 @@ pub fn read_words(s: &[u8], from: usize, out: &mut [u16])
     requires { from + 2 * length out.old ≤ length s.now }
     ensures { out.new ≡ wordsAt s.now from 2 (length out.old) }
 {
+    // by place, and not over `chunks_exact`, as what is written is named by its place
     for (i, word) in out.iter_mut().enumerate() {
         *word = read16(s, from + 2 * i);
     }

@@ -60,7 +60,7 @@ fn ratio(n: u64, d: u64) -> u64 {
     (n >> s) % BEFORE_ONE * ONE / e
 }
 
-// 2^30 × the cube root of 2^(33 - z).
+// 2^30 × the cube root of 2^(33 - z): by a match, since a table from 32 on would be asked at z - 32 behind a test.
 fn cube_scale(z: u32) -> u32 {
     match z {
         32 => 1352829926,

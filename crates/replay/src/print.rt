@@ -6,7 +6,6 @@ use book_search::NearestAnswer;
 use causes::Cause;
 use cie::{Chromaticity, Colour, Verdict};
 use looks::Seen;
-use rules::Units;
 use session::{Answer, ReportAnswer};
 use tallies::Tallies;
 use trials::TrialAnswer;
@@ -47,19 +46,12 @@ fn name_of(verdict: Verdict) -> &'static [u8; 4] {
     }
 }
 
-fn number_of(e: Units) -> u32 {
-    match e {
-        Units::Lab(units) => units.0,
-        Units::Luv(units) => units.0,
-    }
-}
-
 fn put_tried(sheet: &mut Sheet<LONGEST>, t: TrialAnswer)
     requires { sheet.old.end + 151 ≤ LONGEST }
     ensures { sheet.new.end ≤ sheet.old.end + 151 }
 {
     sheet.put(name_of(t.verdict));
-    sheet.put_field(number_of(t.difference));
+    sheet.put_field(t.difference.count());
     put_colour(sheet, t.colour);
 }
 

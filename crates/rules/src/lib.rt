@@ -45,7 +45,7 @@ pub fn tolerance_of(space: Space, amount: u32) -> Units
 
 impl Units {
     // The amount, whatever its space.
-    fn count(self) -> u32
+    pub fn count(self) -> u32
         ensures { result ≡ units_of self }
     {
         match self {

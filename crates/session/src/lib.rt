@@ -21,9 +21,9 @@ use trials::{Standing, TrialAnswer};
 mod look;
 
 // What holds of every session is the clause `Valid`, and no ghost field: it is the one invariant of the calls, which `Meets` says each of them
-// keeps and which the claims about lists of calls speak of. `opened` stands beside the conditions, which are no Option, as the checks and
-// definitions of a trial (`trial_checks`, `tried_by`) take the two apart.
-#[derive(Clone, Copy)]
+// keeps and which the claims about lists of calls speak of. `opened` stands beside the conditions, which are no Option: `fresh_session`
+// has conditions that hold nothing, and `trial_checks` takes the flag.
+#[derive(Clone, Copy, Debug, PartialEq, Eq)]
 pub struct Session {
     conditions: Conditions,
     opened: bool,
@@ -49,7 +49,7 @@ pub enum Answer {
 }
 
 // The session that a call leaves, beside its answer or the cause against it.
-#[derive(Clone, Copy)]
+#[derive(Clone, Copy, Debug, PartialEq, Eq)]
 pub struct Served {
     pub session: Session,
     pub answer: Result<Answer, Cause>,

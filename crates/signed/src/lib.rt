@@ -5,7 +5,7 @@ ghost use Rattle.std.specs.Prelude.{◌≡◌, ◌*◌, ◌/◌, ◌^◌, ◌<�
 ghost use Rattle.std.specs.Int.Signed.{quot_z};
 ghost use Rattle.signed.specs.Apart.{distance, apart};
 
-// How far two numbers are apart.
+// How far two numbers are apart. This and `apart_of` stay for their promises and for the edit apart_of_sign; the crates above ask `abs_diff` itself.
 pub fn distance_of(a: u32, b: u32) -> u32
     ensures { result ≡ distance a b }
 {

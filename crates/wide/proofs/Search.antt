@@ -16,15 +16,6 @@ pub record Between (told : ℕ → Bool → Type 0) (top lo half : ℕ) : Type 0
   pub passes : (lo ≡ 0) ⊎ told lo true
   pub stops : (lo + 2 ^ turns ≡ top) ⊎ told (lo + 2 ^ turns) false
 
--- what is left at first
-pub all_left : (told : ℕ → Bool → Type 0) (bits : ℕ) → 0 < bits → bits ≤ 32 → Between told (2 ^ bits) 0 (1 * 2 ^ (bits - 1) % 2 ^ 32)
-all_left told bits z h =
-    let e : 0 + 2 ^ bits ≡ 2 ^ bits = omega arith in
-    record { turns = bits; halved = go (bits - 1) (omega arith); within = omega arith; passes = inl refl; stops = inl e }
-  where
-    go : (n : ℕ) → bits ≡ suc n → 1 * 2 ^ n % 2 ^ 32 ≡ 2 ^ bits / 2
-    go n e = mod-eq_of_lt (omega (arith, pow-lt {i = n} {j = 32} (omega arith))) ∙ omega (arith, pow-suc 2 n, ap (λ (k : ℕ). 2 ^ k) e)
-
 -- with a turn left, half is a power of two, and the number twice half above lo is the one that does not pass
 record Turn (told : ℕ → Bool → Type 0) (top lo half : ℕ) : Type 0 where
   pub rest : ℕ

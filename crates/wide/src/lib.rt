@@ -12,7 +12,8 @@ mod halving;
 pub mod ratios;
 pub mod roots;
 
-// hi × 2^64 + lo, and no u128: each function below and `ratios::cut_of` is about the two words and what is carried from one to the other.
+// hi × 2^64 + lo, and no u128: the edits product_carry, sum_carry, times_carry and ratio_cut are about the two words and what is carried from one
+// to the other.
 #[derive(Clone, Copy, Debug, PartialEq, Eq)]
 pub struct Wide {
     pub hi: u64,
@@ -55,7 +56,7 @@ pub fn product(a: u64, b: u64) -> Wide
     }
 }
 
-// Whether a is at most b.
+// Whether a is at most b; the edit at_most_strict is about the lower words.
 pub fn at_most(a: Wide, b: Wide) -> bool
     ensures { result ≡ nat_le (value a) (value b) }
 {
