@@ -109,6 +109,7 @@ fn trial_words(kind: u32, t: TrialAnswer) -> [u32; ANSWER_WORDS]
 }
 
 // The words of a report's answer: the tallies of table 1, of table 2, and so on.
+#[tactic(auto, using(crate::proofs::Laid::report_more))]
 fn report_words(report: ReportAnswer) -> [u32; ANSWER_WORDS]
     ensures { result ≡ answer_record (outcome_of (Ok (Counted report))) }
 {

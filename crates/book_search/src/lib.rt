@@ -53,7 +53,14 @@ fn nearest_by(
     ensures result_value { nearest_outcome result ≡ answered (nearest budget (book_beside (colour_under (conditions_lent lent.entry)) lent.entry.rows swatch book.now)) }
     ensures count_le_budget { result.count ≤ budget }
 {
-    keys::put_keys(keys, swatch.l, book, places, lent);
+    keys::put_keys(
+        keys,
+        swatch.l,
+        book,
+        places,
+        lent.white.sums.y,
+        lent.weights.y,
+    );
     comparing::searched(budget, swatch, book, keys, places, lent)
 }
 

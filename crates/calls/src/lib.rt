@@ -75,6 +75,7 @@ fn word(words: &[u32], i: usize) -> u32
 }
 
 // The part that two words of a record name in a slice, or an empty one where it runs past the end.
+#[tactic(auto, unfolding(crate::specs::Records::part_of))]
 fn part<'a, T>(slice: &'a [T], words: &[u32], i: usize) -> &'a [T]
     requires { i < call_words }
     ensures { result.now ≡ part_at slice.now words.now i }

@@ -9,6 +9,7 @@ use borrow.Author.Tests.{ltb-true, ltb-false, lt-ltb, le-ltb}
 use lib.Dec.{ltb}
 use lib.ListN.{length, get_or, take, drop, take-append-drop}
 use lib.Seq.{drop-cons}
+use Rattle.std.proofs.lemmas.List.{drop_all}
 use Rattle.cie.specs.Scales.{any_above}
 use Rattle.std.proofs.Common.{fold, max, unwrap_or}
 use Rattle.std.specs.List.{reduce}
@@ -77,3 +78,14 @@ pub largest_decides : (limit : ℕ) (xs : List ℕ) → ltb limit (unwrap_or (re
 unfolding any_above
 largest_decides l [] = le-ltb l 0 (omega arith)
 largest_decides l (x ∷ xs) = largest_from l x xs
+
+-- the largest of what is passed, and the entries from the i-th on, have the largest of all
+pub largest_more : (xs : List ℕ) (top i : ℕ) {m : ℕ} → i < length xs → m ≡ max top (get_or xs i 0) → fold max m (drop (i + 1) xs) ≡ fold max top (drop i xs)
+largest_more xs top i h e = rw (e, add-one, drop-cons xs i 0 h) refl
+
+pub largest_passed : (xs : List ℕ) (top i : ℕ) → length xs ≤ i → fold max top (drop i xs) ≡ fold max 0 xs → top ≡ unwrap_or (reduce max xs) 0
+largest_passed xs top i h e = rw (drop_all i xs h) at e ∙ whole xs
+  where
+    whole : (l : List ℕ) → fold max 0 l ≡ unwrap_or (reduce max l) 0
+    whole [] = refl
+    whole (x ∷ l) = let z : max 0 x ≡ x = omega arith in ap (λ (n : ℕ). fold max n l) z

@@ -40,9 +40,9 @@ fn length_between(m: Place, n: Place) -> u32
     requires { squares_between m n < 2 ^ 64 }
     ensures { result ≡ square_root (squares_between m n) }
 {
-    let l = m.l.abs_diff(n.l) as u64;
-    let p = m.p.abs_diff(n.p) as u64;
-    let q = m.q.abs_diff(n.q) as u64;
+    let l = signed::distance_of(m.l, n.l) as u64;
+    let p = signed::apart_of(m.p, n.p) as u64;
+    let q = signed::apart_of(m.q, n.q) as u64;
     wide::roots::square_root(l * l + p * p + q * q)
 }
 

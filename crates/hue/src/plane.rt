@@ -20,13 +20,14 @@ pub struct PlaneShift {
 }
 
 // The two squared plane differences less the squared chroma difference, or 0.
+#[tactic(auto, using(crate::proofs::Sizes::left_is))]
 fn hue_square(standard: PlaneColour, trial: PlaneColour) -> u64
     requires { InPlane standard × InPlane trial }
     ensures { result ≡ hue_square standard trial }
 {
-    let p = standard.p.abs_diff(trial.p) as u64;
-    let q = standard.q.abs_diff(trial.q) as u64;
-    let c = standard.chroma.abs_diff(trial.chroma) as u64;
+    let p = signed::apart_of(standard.p, trial.p) as u64;
+    let q = signed::apart_of(standard.q, trial.q) as u64;
+    let c = signed::distance_of(standard.chroma, trial.chroma) as u64;
     (p * p + q * q).saturating_sub(c * c)
 }
 

@@ -3,7 +3,7 @@ use crate::form::{ENTRIES, Stage};
 use crate::line::Line;
 use crate::token::Token;
 
-#[derive(Debug, Drop)]
+#[derive(Clone, Copy, Debug)]
 pub struct Reader {
     line: Line,
     token: Token,

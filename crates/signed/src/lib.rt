@@ -1,11 +1,11 @@
 // Signed numbers at the edge of unsigned ones.
 #![tactic(auto)]
 
-ghost use Rattle.std.specs.Prelude.{◌≡◌, ◌*◌, ◌/◌, ◌^◌, ◌<◌, pos, ◌-ℤ◌, ◌*ℤ◌};
+ghost use Rattle.std.specs.Prelude.{◌≡◌, ◌*◌, ◌/◌, ◌^◌, ◌<◌, pos, nat_abs, ◌-ℤ◌, ◌*ℤ◌};
 ghost use Rattle.std.specs.Int.Signed.{quot_z};
 ghost use Rattle.signed.specs.Apart.{distance, apart};
 
-// How far two numbers are apart. This and `apart_of` stay for their promises and for the edit apart_of_sign; the crates above ask `abs_diff` itself.
+// How far two numbers are apart.
 pub fn distance_of(a: u32, b: u32) -> u32
     ensures { result ≡ distance a b }
 {
@@ -36,11 +36,21 @@ pub fn multiple(k: u32, a: u32, b: u32) -> i32
     minus(k * a, k * b)
 }
 
+// scaled / d, rounded towards zero.
+#[tactic(auto, using(crate::proofs::Signs::quotients))]
+fn towards_zero(scaled: i64, d: u32) -> i32
+    requires { nat_abs scaled < 2 ^ 31 * d }
+    ensures { result ≡ quot_z scaled (pos d) }
+{
+    (scaled / d as i64) as i32
+}
+
 // k × (a − b) / d, rounded towards zero.
+#[tactic(auto, using(crate::proofs::Signs::made_share))]
 pub fn share(k: u32, a: u32, b: u32, d: u32) -> i32
     requires { (k * a < 2 ^ 31 * d) × (k * b < 2 ^ 31 * d) }
     ensures { result ≡ quot_z (pos k *ℤ (pos a -ℤ pos b)) (pos d) }
 {
     let scaled = k as i64 * (a as i64 - b as i64);
-    (scaled / d as i64) as i32
+    towards_zero(scaled, d)
 }

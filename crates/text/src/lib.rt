@@ -27,10 +27,13 @@ pub fn put_number(out: &mut [u8], at: usize, n: u32) -> usize
 }
 
 // A signed number in decimal, with a minus sign where it is below 0.
-#[tactic(auto, using(crate::proofs::Decimal::signed_is))]
 pub fn put_signed(out: &mut [u8], at: usize, x: i32) -> usize
     requires { at + 11 ≤ length out.old }
     ensures { Put out.old at (signed x) out.new result × (result ≤ at + 11) }
 {
-    put(out, at, Buffer::new().format(x).as_bytes())
+    if x < 0 {
+        let digits = put(out, at, b"-");
+        return put_number(out, digits, x.unsigned_abs());
+    }
+    put_number(out, at, x.unsigned_abs())
 }

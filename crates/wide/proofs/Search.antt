@@ -1,6 +1,5 @@
 -- A search by halving ends at the last number that passes its test, and that is the root or the quotient rounded down. Assumes nothing.
-use Rattle.std.proofs.Common.{◌≡◌, ◌⊎◌, inl, inr, ℕ, zero, suc, ◌+◌, ◌-◌, ◌*◌, ◌/◌, ◌^◌, ◌<◌, ◌≤◌, Bool, true, false, not, ◌&&◌, leb, sym, refl, ap, ◌∙◌, lt_of_mul-lt-mul_right, div-mul-le_self, true≢false, pow-suc, mod-eq_of_lt, ◌%◌, add-one, arith, leb→le, pow_pos, le-leb}
-use Rattle.std.proofs.Math.Pow.{pow-lt}
+use Rattle.std.proofs.Common.{◌≡◌, ◌⊎◌, inl, inr, ℕ, zero, suc, ◌+◌, ◌-◌, ◌*◌, ◌/◌, ◌^◌, ◌<◌, ◌≤◌, Bool, true, false, not, ◌&&◌, leb, sym, refl, ap, ◌∙◌, lt_of_mul-lt-mul_right, div-mul-le_self, true≢false, pow-suc, add-one, arith, leb→le, pow_pos, le-leb}
 use native.Mathlib.Nat.{div-eq_of_lt-le}
 use native.Mathlib.Decide.{dec_le}
 use borrow.Author.Tests.{lt-leb}
@@ -8,57 +7,75 @@ use lib.Dec.{nleb→lt}
 use Rattle.wide.specs.Roots.{Last, LastTold, is_last, square_root, cube_root, quotient_below, square_below, cube_below}
 use Rattle.wide.proofs.Greatest.{square_root_is, cube_root_is}
 
--- lo passes, and the number 2^turns above it does not, or is `top`; half is half of 2^turns, and 0 where that is 1
-pub record Between (told : ℕ → Bool → Type 0) (top lo half : ℕ) : Type 0 where
+-- what is known of lo, and of the number 2^turns above it, at top or below; half is half of 2^turns, and 0 where that is 1
+pub record Halved (low high : ℕ → Type 0) (top lo half : ℕ) : Type 0 where
   pub turns : ℕ
   pub halved : half ≡ 2 ^ turns / 2
   pub within : lo + 2 ^ turns ≤ top
-  pub passes : (lo ≡ 0) ⊎ told lo true
-  pub stops : (lo + 2 ^ turns ≡ top) ⊎ told (lo + 2 ^ turns) false
+  pub holds : low lo
+  pub fails : high (lo + 2 ^ turns)
 
--- with a turn left, half is a power of two, and the number twice half above lo is the one that does not pass
-record Turn (told : ℕ → Bool → Type 0) (top lo half : ℕ) : Type 0 where
+-- the test holds at lo and fails 2^turns above it
+abbrev pub Between : (ℕ → Bool) → ℕ → ℕ → ℕ → Type 0
+Between t = Halved (λ x. t x ≡ true) (λ x. t x ≡ false)
+
+-- the test told that lo passes, or lo is 0, and that the number 2^turns above it does not, or that is `top`
+abbrev pub BetweenTold : (ℕ → Bool → Type 0) → ℕ → ℕ → ℕ → Type 0
+BetweenTold told top = Halved (λ x. (x ≡ 0) ⊎ told x true) (λ x. (x ≡ top) ⊎ told x false) top
+
+-- with a turn left, half is a power of two, and what is known of the upper number is known of the one twice half above lo
+record Turn (high : ℕ → Type 0) (top lo half : ℕ) : Type 0 where
   pub rest : ℕ
   pub power : half ≡ 2 ^ rest
   pub within : lo + half + half ≤ top
-  pub stops : (lo + half + half ≡ top) ⊎ told (lo + half + half) false
+  pub fails : high (lo + half + half)
 
 -- what is between lo and lo + half, where half is a power of two
-half_left : {told : ℕ → Bool → Type 0} {top lo half : ℕ} (n : ℕ) → half ≡ 2 ^ n → lo + half ≤ top → (lo ≡ 0) ⊎ told lo true →
-    (lo + half ≡ top) ⊎ told (lo + half) false → Between told top lo (half / 2)
-half_left n p w h f = record { turns = n; halved = ap (λ (x : ℕ). x / 2) p; within = rw p at w; passes = h; stops = rw p at f }
+half_left : {low high : ℕ → Type 0} {top lo half : ℕ} (n : ℕ) → half ≡ 2 ^ n → lo + half ≤ top → low lo → high (lo + half) →
+    Halved low high top lo (half / 2)
+half_left n p w h f = record { turns = n; halved = ap (λ (x : ℕ). x / 2) p; within = rw p at w; holds = h; fails = rw p at f }
 
-module _ {told : ℕ → Bool → Type 0} {top lo half : ℕ} (b : Between told top lo half) where
-  -- where nothing is left between, lo is the last
-  pub between_last : half ≡ 0 → LastTold told top lo
-  between_last none = go b.turns b.halved b.within b.stops
+module _ {low high : ℕ → Type 0} {top lo half : ℕ} (b : Halved low high top lo half) where
+  pub lo_below : lo < top
+  lo_below = omega (arith, b.within, pow_pos b.turns)
+
+  -- where nothing is left between, the upper number is the next one
+  pub next_left : half ≡ 0 → high (suc lo)
+  next_left none = go b.turns b.halved b.fails
     where
-      go : (n : ℕ) → half ≡ 2 ^ n / 2 → lo + 2 ^ n ≤ top → (lo + 2 ^ n ≡ top) ⊎ told (lo + 2 ^ n) false → LastTold told top lo
-      go zero e w f = record { below = omega (arith, w); passes = b.passes; stops = rw (add-one lo) at f }
-      go (suc n) e w f = absurd (omega (arith, pow-suc 2 n, pow_pos n))
+      go : (n : ℕ) → half ≡ 2 ^ n / 2 → high (lo + 2 ^ n) → high (suc lo)
+      go zero e f = rw (add-one lo) at f
+      go (suc n) e f = absurd (omega (arith, pow-suc 2 n, pow_pos n))
 
   module _ (more : 0 < half) where
-    turn : Turn told top lo half
-    turn = go b.turns b.halved b.within b.stops
+    turn : Turn high top lo half
+    turn = go b.turns b.halved b.within b.fails
       where
-        go : (n : ℕ) → half ≡ 2 ^ n / 2 → lo + 2 ^ n ≤ top → (lo + 2 ^ n ≡ top) ⊎ told (lo + 2 ^ n) false → Turn told top lo half
+        go : (n : ℕ) → half ≡ 2 ^ n / 2 → lo + 2 ^ n ≤ top → high (lo + 2 ^ n) → Turn high top lo half
         go zero e w f = absurd (omega arith)
         go (suc n) e w f =
             let p : half ≡ 2 ^ n = omega (arith, pow-suc 2 n) in
             let s : lo + 2 ^ suc n ≡ lo + half + half = omega (arith, pow-suc 2 n) in
-            record { rest = n; power = p; within = rw s at w; stops = rw s at f }
+            record { rest = n; power = p; within = rw s at w; fails = rw s at f }
 
     -- the number in the middle
     pub mid_below : lo + half < top
     mid_below = omega (arith, turn.within)
 
-    -- where it passes the test, what is above it is left
-    pub upper_half : told (lo + half) true → Between told top (lo + half) (half / 2)
-    upper_half h = half_left turn.rest turn.power turn.within (inr h) turn.stops
+    -- where it passes, what is above it is left
+    pub upper_half : low (lo + half) → Halved low high top (lo + half) (half / 2)
+    upper_half h = half_left turn.rest turn.power turn.within h turn.fails
 
     -- where it does not, what is below it is left
-    pub lower_half : told (lo + half) false → Between told top lo (half / 2)
-    lower_half h = half_left turn.rest turn.power (omega (arith, mid_below)) b.passes (inr h)
+    pub lower_half : high (lo + half) → Halved low high top lo (half / 2)
+    lower_half h = half_left turn.rest turn.power (omega (arith, mid_below)) b.holds h
+
+-- where nothing is left between, lo is the last: by a test, and by what a test told
+pub between_last : {t : ℕ → Bool} {top lo half : ℕ} → Between t top lo half → half ≡ 0 → Last t lo
+between_last b none = record { passes = rw b.holds tt; stops = rw (next_left b none) tt }
+
+pub told_last : {told : ℕ → Bool → Type 0} {top lo half : ℕ} → BetweenTold told top lo half → half ≡ 0 → LastTold told top lo
+told_last b none = record { below = lo_below b; passes = b.holds; stops = next_left b none }
 
 -- the last number by what was told, where that is the test t
 pub last_told : {told : ℕ → Bool → Type 0} {top r : ℕ} (t : ℕ → Bool) → ((x : ℕ) (b : Bool) → told x b → b ≡ t x) →

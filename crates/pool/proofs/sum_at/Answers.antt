@@ -9,13 +9,13 @@ loop-i-init c = omega (arith, sum_all c.args.rows c.args.row c.args.count c.args
 pub overflow_add-sum : goal.overflow_add-sum
 overflow_add-sum c =
     let a = c.args in
-    let next = sum_more a.rows a.row a.count a.spots.now c.loop-i.i c.loop-i-test.true in
+    let next = sum_more a.rows a.row a.count a.spots.now c.loop-i.i (omega arith) in
     omega (arith, c.loop-i.invariant, next, c.from-sum.ensures, row_sum_lem c.requires.0 a.row c.requires.1)
 
 pub loop-i-preserved : goal.loop-i-preserved
 loop-i-preserved c =
     let a = c.args in
-    let next = sum_more a.rows a.row a.count a.spots.now c.loop-i.i c.loop-i-test.true in
+    let next = sum_more a.rows a.row a.count a.spots.now c.loop-i.i (omega arith) in
     omega (arith, c.loop-i.invariant, next, c.from-sum.ensures)
 
 pub returns : goal.returns

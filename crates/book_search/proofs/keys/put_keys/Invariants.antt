@@ -6,7 +6,7 @@ use Rattle.book_search.proofs.keys.put_keys.Given as goal
 
 abbrev pub invariant-loop-i : goal.invariant-loop-i
 invariant-loop-i l =
-    let all = keys_by (lightness_by l.lent.white.sums.y l.lent.weights.y.now) l.lent.rows l.l l.book in
+    let all = keys_by (lightness_by l.yn l.y) (length l.initial.places) l.l l.book in
     sets l.keys l.i (drop l.i all) ≡ sets l.initial.keys 0 all
 
 abbrev pub decreases-loop-i : goal.decreases-loop-i

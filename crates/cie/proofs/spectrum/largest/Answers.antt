@@ -1,14 +1,10 @@
--- The chain gives the readings, of which it takes the largest. Assumes nothing.
-use Rattle.std.proofs.Common.{ℕ, ap, sym, ◌∙◌}
-use Rattle.std.specs.Prelude.{Option, unwrap_or}
-use Rattle.std.proofs.lemmas.Iterator.Adapters.{option_map_id}
-use Rattle.std.proofs.lemmas.Iterator.{YieldsList-from_slice}
-use Rattle.std.proofs.lemmas.Iterator.Consumers.{YieldsList-from_copied, max_from_yields_List}
+-- Each turn passes one reading. At the end none is left. Assumes nothing.
+use Rattle.std.proofs.Common.{◌∙◌, arith, rules}
+use Rattle.cie.proofs.Scales.{largest_more, largest_passed}
 use Rattle.cie.proofs.spectrum.largest.Goals as goal
 
+pub loop-i-preserved : goal.loop-i-preserved
+loop-i-preserved c = largest_more c.args.readings.now c.loop-i.top c.loop-i.i (omega arith) (search rules) ∙ c.loop-i.invariant
+
 pub returns : goal.returns
-returns c =
-    c.unwrap_or.ensures
-    ∙ ap (λ (o : Option ℕ). unwrap_or o 0)
-    (sym (option_map_id c.max.result)
-    ∙ max_from_yields_List c.copied.result c.max.result c.max.ensures.ran (YieldsList-from_copied (YieldsList-from_slice c.args.readings.now (cc))))
+returns c = largest_passed c.args.readings.now c.loop-i.top c.loop-i.i (omega arith) c.loop-i.invariant
